@@ -123,7 +123,7 @@ pub subscribed_after : (p : Setting) (j : Journal) (c : Command) → subscribed 
 unfolding after_command
 subscribed_after p j c = subscribed_settled p (with_reports p (plan p j c) (entry.Command c ∷ j)) ∙ tell_subscribed p (plan p j c) (entry.Command c ∷ j)
 
-subscribed_rows : (rs : List Row) (j : Journal) → subscribed (with_rows rs j) ≡ subscribed j
+pub subscribed_rows : (rs : List Row) (j : Journal) → subscribed (with_rows rs j) ≡ subscribed j
 unfolding with_rows subscribed
 subscribed_rows [] j = refl
 subscribed_rows (r ∷ rs) j = subscribed_rows rs (entry.Row r ∷ j)

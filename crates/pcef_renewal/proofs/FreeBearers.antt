@@ -41,7 +41,7 @@ module _ (p : Setting) (old new : Generation) (old_bound : IsBound p old) (new_b
       old_bound.distinct s.properties.qos t.properties.qos (has_own p old.rules s (part s here)) (has_own p old.rules t there) same
 
   -- as many numbers before as there are now
-  numbers_before : (ns : List ℕ) → NumbersOnce ns → ((n : ℕ) → Contains ns n → Has n) →
+  pub numbers_before : (ns : List ℕ) → NumbersOnce ns → ((n : ℕ) → Contains ns n → Has n) →
       (ids : List ℕ) × (length ids ≡ length ns) × NumbersOnce ids × ((i : ℕ) → Contains ids i → Had ns i)
   unfolding Once
   numbers_before [] once has = ([], refl, tt, λ i there. absurd (omega (arith, there.1)))
@@ -65,7 +65,7 @@ module _ (p : Setting) (old new : Generation) (old_bound : IsBound p old) (new_b
       )
 
   -- a number beside the default one was such a number before
-  was_other : (s : Active) → Contains new.rules s → Contains other_ids (new.id_of s.properties.qos) → Contains other_ids (old.id_of s.properties.qos)
+  pub was_other : (s : Active) → Contains new.rules s → Contains other_ids (new.id_of s.properties.qos) → Contains other_ids (old.id_of s.properties.qos)
   was_other s there now_other =
       let isnt : same_qos s.properties.qos p.default_qos ≡ false =
       false_from_ne_true (same_qos s.properties.qos p.default_qos)

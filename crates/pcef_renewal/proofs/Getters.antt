@@ -13,13 +13,14 @@ use Rattle.pcef_catalog.specs.declared.listing.Offer.{Offer}
 use Rattle.pcef_model.specs.declared.command.Command.{Command}
 use Rattle.pcef_model.specs.declared.command.Command.TheVariants.{Activate, Monitor}
 use Rattle.pcef_model.specs.declared.level.Level.{Level}
+use Rattle.pcef_model.specs.declared.trigger.TriggerSet.{TriggerSet}
 use Rattle.pcef_model.specs.ActiveRules.{Active, dynamic, predefined}
 use Rattle.pcef_model.specs.Bearers.{default_id, other_ids}
 use Rattle.pcef_model.specs.Commands.{is_among}
 use Rattle.pcef_model.specs.Entries.{Journal}
 use Rattle.pcef_model.specs.Generations.{Generation}
 use Rattle.pcef_model.specs.Journals.{grant, level_of, now, subscribed, unreported}
-use Rattle.pcef_model.specs.Refusals.{is_bearer}
+use Rattle.pcef_model.specs.Refusals.{is_bearer, was_closed}
 use Rattle.pcef_model.specs.Setting.{Setting}
 use Rattle.pcef_table.specs.declared.entry.Source.{Source}
 use Rattle.pcef_table.specs.declared.entry.Source.TheVariants.{Dynamic, Predefined}
@@ -27,8 +28,6 @@ use Rattle.pcef_usage.specs.declared.usage.KeyState.{KeyState}
 use Rattle.pcef_session.specs.Agreement.{AreKept, KeyAgrees, KeysAgree}
 use Rattle.pcef_session.specs.Shown.{rule_of}
 use Rattle.pcef_renewal.specs.Renewal.{bearers_used, close_again, grant_after, is_any, keys_on, monitor_again, placed, placed_from, places, renewal, rule_again, rules_in_order, rules_on, rules_on_each, subscribe_again}
-use Rattle.pcef_renewal.specs.declared.noted.Noted.{Noted}
-use Rattle.pcef_renewal.specs.Noted.{noted_of}
 use Rattle.pcef_renewal.specs.Renewing.{commands_needed}
 use Rattle.pcef_renewal.specs.private.Again.{again_on, again_on_each, closing, is_used, kept_again, monitor_of, monitors_of, subscription}
 
@@ -104,7 +103,7 @@ placed_agree s t same (n ∷ ns) beyond =
       | inr isnt ↦ rw (same n ∙ isnt, isnt) (ap (λ xs. take 1 beyond ++ xs) (placed_agree s t same ns (drop 1 beyond)))
     ]
 
-places_are : (p : Setting) (j : Journal) (bound : List Bound) → bound ≡ bound_of (now p j) (now p j).rules → placed_from (is_used bound) (filter (is_used bound) other_ids) ≡ places p j
+pub places_are : (p : Setting) (j : Journal) (bound : List Bound) → bound ≡ bound_of (now p j) (now p j).rules → placed_from (is_used bound) (filter (is_used bound) other_ids) ≡ places p j
 places_are p j bound is =
     let same : (id : ℕ) → is_used bound id ≡ is_bearer p j id = (λ id. ap (λ bs. is_used bs id) is ∙ used_is p j id) in
     let used : filter (is_used bound) other_ids ≡ bearers_used p j = filter_agree (is_used bound) (λ id. is_bearer p j id) same other_ids in
@@ -122,26 +121,26 @@ all_again p j bound kept ids bound_is kept_are ids_are before first all one othe
     ∙ ap (λ bs. again_on_each (default_id ∷ places p j) bs kept) bound_is ∙ on_each_is p j kept kept_are (default_id ∷ places p j))
 
 -- ---- the list
-pub whole_list : (p : Setting) (j : Journal) (n : Noted) (states : List KeyState) → KeysAgree p j states → n ≡ noted_of j → (zero one two three four : List Command) → zero ≡ [] →
-    one ≡ zero ++ monitors_of states → two ≡ one ++ subscription n.subscribed → three ≡ two ++ map rule_again (rules_in_order p j) → four ≡ three ++ closing n.closed →
-    four ≡ renewal p j
-whole_list p j n states agree noted zero one two three four empty first second third fourth =
+pub whole_list : (p : Setting) (j : Journal) (states : List KeyState) (events : TriggerSet) (closed : Bool) → KeysAgree p j states → events ≡ subscribed j → closed ≡ was_closed j →
+    (zero one two three four : List Command) → zero ≡ [] → one ≡ zero ++ monitors_of states → two ≡ one ++ subscription events → three ≡ two ++ map rule_again (rules_in_order p j) →
+    four ≡ three ++ closing closed → four ≡ renewal p j
+whole_list p j states events closed agree events_are closed_is zero one two three four empty first second third fourth =
     let keys : List Command = map (monitor_again p j) (keys_on p j) in
     let subs : List Command = subscribe_again j in
     let rules : List Command = map rule_again (rules_in_order p j) in
     let one_is : one ≡ keys = first ∙ ap (λ cs. cs ++ monitors_of states) empty ∙ monitors_are p j states agree in
-    let two_is : two ≡ keys ++ subs = second ∙ ap (λ cs. cs ++ subscription n.subscribed) one_is ∙ ap (λ (m : Noted). keys ++ subscription m.subscribed) noted in
+    let two_is : two ≡ keys ++ subs = second ∙ ap (λ cs. cs ++ subscription events) one_is ∙ ap (λ set. keys ++ subscription set) events_are in
     let three_is : three ≡ (keys ++ subs) ++ rules = third ∙ ap (λ cs. cs ++ rules) two_is in
-    fourth ∙ ap (λ cs. cs ++ closing n.closed) three_is ∙ ap (λ (m : Noted). ((keys ++ subs) ++ rules) ++ closing m.closed) noted
+    fourth ∙ ap (λ cs. cs ++ closing closed) three_is ∙ ap (λ is. ((keys ++ subs) ++ rules) ++ closing is) closed_is
     ∙ append_assoc (keys ++ subs) rules (close_again j) ∙ append_assoc keys subs (rules ++ close_again j)
 
 -- ---- what it needs
-pub needed_is : (p : Setting) (j : Journal) (n : Noted) (states : List KeyState) (bound : List Bound) (keys subscriptions : ℕ) → KeysAgree p j states → n ≡ noted_of j →
-    bound ≡ bound_of (now p j) (now p j).rules → keys ≡ length (monitors_of states) → subscriptions ≡ (if is_any n.subscribed then 1 else 0) →
+pub needed_is : (p : Setting) (j : Journal) (states : List KeyState) (events : TriggerSet) (bound : List Bound) (keys subscriptions : ℕ) → KeysAgree p j states → events ≡ subscribed j →
+    bound ≡ bound_of (now p j) (now p j).rules → keys ≡ length (monitors_of states) → subscriptions ≡ (if is_any events then 1 else 0) →
     keys + subscriptions + length bound ≡ commands_needed p j
-needed_is p j n states bound keys subscriptions agree noted bound_is keys_are subs_are =
+needed_is p j states events bound keys subscriptions agree events_are bound_is keys_are subs_are =
     let on : length (monitors_of states) ≡ length (keys_on p j) = ap length (monitors_are p j states agree) ∙ length-map (keys_on p j) (monitor_again p j) in
-    let subs : subscriptions ≡ (if is_any (subscribed j) then 1 else 0) = subs_are ∙ ap (λ (m : Noted). if is_any m.subscribed then 1 else 0) noted in
+    let subs : subscriptions ≡ (if is_any (subscribed j) then 1 else 0) = subs_are ∙ ap (λ set. if is_any set then 1 else 0) events_are in
     let rules : length bound ≡ length (now p j).rules =
     ap length bound_is ∙ length-map (now p j).rules (λ (r : Active). bound_at r.properties.name r.properties.qos r.properties.rates ((now p j).id_of r.properties.qos)) in
     omega (arith, keys_are, on, subs, rules)

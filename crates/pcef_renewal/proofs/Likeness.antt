@@ -17,9 +17,9 @@ use Rattle.pcef_model.specs.Bearers.{rate_down, rate_up}
 use Rattle.pcef_model.specs.Commands.{is_among, key_named, switched}
 use Rattle.pcef_model.specs.Entries.{Journal, rows}
 use Rattle.pcef_model.specs.Generations.{Generation, add_if_some, has_bearer, made_by, rules_after, slots_of}
-use Rattle.pcef_model.specs.Journals.{attached, grant, level_of, no_triggers, now, slots, subscribed, tables, unreported}
+use Rattle.pcef_model.specs.Journals.{grant, level_of, no_triggers, now, slots, subscribed, tables, unreported}
 use Rattle.pcef_model.specs.Lawful.{Lawful, at_first}
-use Rattle.pcef_model.specs.Refusals.{Conditions, limited_count, total_down, total_up, was_closed, was_terminated}
+use Rattle.pcef_model.specs.Refusals.{limited_count, total_down, total_up, was_closed}
 use Rattle.pcef_model.specs.Reports.{is_reached_by}
 use Rattle.pcef_model.specs.Setting.{Setting, same_name, same_qos}
 use Rattle.pcef_model.proofs.BearerIds.{lawful_bound}
@@ -32,13 +32,7 @@ use Rattle.pcef_renewal.specs.Likeness.{Like, ReachesAlike, is_kept}
 use Rattle.pcef_renewal.specs.Renewal.{close_again, grant_after, is_any, keys_on, monitor_again, out_of_reach, renewal, rule_again, rule_again_by, rules_in_order, subscribe_again}
 use Rattle.pcef_model.proofs.Ending.{among_kept}
 use Rattle.pcef_session.specs.SessionModel.{SessionModel}
-use Rattle.pcef_model.proofs.Acceptance.{condition_none}
-use Rattle.pcef_renewal.specs.Noted.{noted_of}
-use Rattle.pcef_renewal.specs.declared.noted.Noted.{Noted}
-use Rattle.pcef_renewal.specs.declared.renewing.RenewRefusal.{RenewRefusal}
-use Rattle.pcef_renewal.specs.declared.renewing.RenewRefusal.TheVariants as refusal
-use Rattle.pcef_renewal.specs.Renewing.{IsRenewed, Renews, commands_needed}
-use Rattle.pcef_renewal.proofs.Noting.{same_parts}
+use Rattle.pcef_renewal.specs.Renewing.{IsRenewed, commands_needed}
 use Rattle.pcef_renewal.proofs.Accepted.{lawful_entered, renewal_taken}
 use Rattle.pcef_renewal.proofs.ActiveFacts.{closed_empty, may_return}
 use Rattle.pcef_renewal.proofs.Fitting.{among_to, fits, no_longer}
@@ -50,7 +44,7 @@ use Rattle.pcef_renewal.proofs.Returning.{down_is, up_is}
 use Rattle.pcef_renewal.proofs.Saying.{Says, says_close, says_monitors, says_nothing, says_rules, says_triggers}
 
 -- ---- a key that is on has a slot
-add_more : (key : List ℕ) (named : Option (List ℕ)) (keys : List (List ℕ)) → is_among key keys ≡ true → is_among key (add_if_some named keys) ≡ true
+pub add_more : (key : List ℕ) (named : Option (List ℕ)) (keys : List (List ℕ)) → is_among key keys ≡ true → is_among key (add_if_some named keys) ≡ true
 add_more key None keys there = there
 add_more key (Some l) keys there = among_add key l keys ∙ rw there refl
 
@@ -74,7 +68,7 @@ among_switched p (Notice kind value) on keys key had there = had there
 among_switched p (LoseBearer id) on keys key had there = had there
 among_switched p Close on keys key had there = had there
 
-on_has_slot : (p : Setting) (cs : List Command) (key : List ℕ) → is_among key (made_by p cs).on ≡ true → is_among key (slots_of p cs) ≡ true
+pub on_has_slot : (p : Setting) (cs : List Command) (key : List ℕ) → is_among key (made_by p cs).on ≡ true → is_among key (slots_of p cs) ≡ true
 unfolding made_by slots_of
 on_has_slot p [] key there = absurd cc
 on_has_slot p (c ∷ cs) key there =
@@ -82,7 +76,7 @@ on_has_slot p (c ∷ cs) key there =
     among_switched p c g.on (slots_of p cs) key (on_has_slot p cs key)
     (filter_any (same_name key) (λ k. not (has_key k g.rules) || has_key k (rules_after p g c)) (switched c g.on) there)
 
-on_again : (p : Setting) (j : Journal) (key : List ℕ) → is_among key (keys_on p j) ≡ is_among key (now p j).on
+pub on_again : (p : Setting) (j : Journal) (key : List ℕ) → is_among key (keys_on p j) ≡ is_among key (now p j).on
 on_again p j key =
     let test : List ℕ → Bool = λ k. is_among k (now p j).on in
     elim (cases_Bool (is_among key (now p j).on)) [
@@ -92,7 +86,7 @@ on_again p j key =
     ]
 
 -- ---- the whole list
-entered_append : (cs ds : List Command) (k : Journal) → entered (cs ++ ds) k ≡ entered ds (entered cs k)
+pub entered_append : (cs ds : List Command) (k : Journal) → entered (cs ++ ds) k ≡ entered ds (entered cs k)
 entered_append [] ds k = refl
 entered_append (c ∷ cs) ds k = entered_append cs ds (entry.Command c ∷ k)
 
@@ -120,7 +114,7 @@ module _ (p : Setting) (j : Journal) (lawful : Lawful p j) where
       says_monitors p j (keys_on p j) [] [] no_triggers false (says_nothing p j)
       (filter_once (λ (x : List ℕ). x) (λ key. is_among key (now p j).on) (slots p j) (made_slots_once p (tables j)))
 
-  says_subscriptions : Says p j (entered (subscribe_again j) (entered keys [])) (keys_on p j) [] (subscribed j) false
+  pub says_subscriptions : Says p j (entered (subscribe_again j) (entered keys [])) (keys_on p j) [] (subscribed j) false
   says_subscriptions =
       elim (cases_Bool (is_any (subscribed j))) [
         | inl some ↦ rw some (says_triggers p j (entered keys []) (keys_on p j) [] no_triggers false (subscribed j) says_keys)
@@ -156,7 +150,7 @@ module _ (p : Setting) (j : Journal) (lawful : Lawful p j) where
       says_end
 
 -- ---- lists with the same elements
-same_any : {X : Type 0} (test : X → Bool) (xs ys : List X) → ((x : X) → Contains xs x → Contains ys x) → ((x : X) → Contains ys x → Contains xs x) → list_any test xs ≡ list_any test ys
+pub same_any : {X : Type 0} (test : X → Bool) (xs ys : List X) → ((x : X) → Contains xs x → Contains ys x) → ((x : X) → Contains ys x → Contains xs x) → list_any test xs ≡ list_any test ys
 same_any test xs ys to back =
     elim (cases_Bool (list_any test ys)) [
       | inl some ↦ let w = some_there test ys some in any_from test xs w.0 (back w.0 w.1) w.2 ∙ sym some
@@ -182,7 +176,7 @@ reached_alike (Some amount) octets more some far =
           | inr reached ↦ le-leb (amount - octets) more reached ∙ sym (le-leb amount (octets + more) (omega (arith, reached, less)))
         ]
 
-no_rows_entered : (cs : List Command) (k : Journal) → rows (entered cs k) ≡ rows k
+pub no_rows_entered : (cs : List Command) (k : Journal) → rows (entered cs k) ≡ rows k
 no_rows_entered [] k = refl
 no_rows_entered (c ∷ cs) k = no_rows_entered cs (entry.Command c ∷ k)
 
@@ -311,19 +305,6 @@ needs_what_it_says p j lawful =
     ap limited_count whole
     ∙ omega (arith, close_limited j d, rules_limited (rules_in_order p j) b, subscription_limited j a, monitors_limited p j (keys_on p j) [], nothing_limited, less, more)
 
--- ---- what was noted
-pub notes_go_on : (p : Setting) (j : Journal) → Lawful p j → was_terminated j ≡ false → noted_of (entered (renewal p j) []) ≡ noted_of j
-notes_go_on p j lawful going =
-    let says = says_all p j lawful in
-    same_parts _ _ _ _ _ _ says.events_are says.closed_is (says.goes_on ∙ sym going)
-
 -- ---- the step
-abbrev later : Setting → Journal → Conditions RenewRefusal
-later p j = (nat_lt 0 (length (attached j)), refusal.WorkersAttached (length (attached j))) ∷ (nat_le p.commands (commands_needed p j), refusal.NoCommandLeft) ∷ []
-
 pub new_is_like : (old next : SessionModel) → Lawful old.setting old.journal → IsRenewed old next → Like old.setting old.journal next.journal
 new_is_like old next lawful renewed = subst (Like old.setting old.journal) (sym renewed.journal) (renewal_like old.setting old.journal lawful)
-
-pub new_is_noted : (old next : SessionModel) (n : Noted) → Lawful old.setting old.journal → Renews old → IsRenewed old next → n ≡ noted_of old.journal → noted_of next.journal ≡ n
-new_is_noted old next n lawful renews renewed noted =
-    ap noted_of renewed.journal ∙ notes_go_on old.setting old.journal lawful (condition_none (was_terminated old.journal) refusal.Terminated (later old.setting old.journal) renews).0 ∙ sym noted

@@ -1,5 +1,5 @@
 -- What one more turn of a loop does.
-use Rattle.std.proofs.Common.{◌≡◌, ◌∙◌, ◌≤◌, ◌<◌, ◌+◌, ◌==◌, ℕ, zero, suc, Bool, true, false, List, [], ◌∷◌, ◌++◌, add-one, drop, filter, get_or, length, map, nat_lt, take, refl, sym, ap, arith}
+use Rattle.std.proofs.Common.{◌≡◌, ◌∙◌, ◌≤◌, ◌<◌, ◌+◌, ◌==◌, ℕ, zero, suc, Bool, true, false, List, [], ◌∷◌, ◌++◌, add-one, drop, filter, get_or, length, map, nat_lt, take, refl, sym, ap, ap₂, arith}
 use Rattle.std.specs.Prelude.{if◌then◌else◌, slice_get}
 use Rattle.std.proofs.lemmas.List.{length-take, append-nil, append_assoc, map-append}
 use Rattle.std.proofs.Math.ListN.{drop_of_length-le, length-map}
@@ -9,8 +9,9 @@ use Rattle.pcef_model.specs.declared.command.Command.{Command}
 use Rattle.pcef_table.specs.declared.entry.Source.{Source}
 use Rattle.pcef_lists.proofs.Keeping.{filter_length}
 use Rattle.pcef_model.specs.Bearers.{default_id, other_ids}
+use Rattle.pcef_renewal.specs.declared.places.BearerNumbers.{BearerNumbers}
 use Rattle.pcef_renewal.specs.Renewal.{placed, placed_from}
-use Rattle.pcef_renewal.specs.private.Again.{again_on, again_on_each, kept_again, kept_if_some, numbers}
+use Rattle.pcef_renewal.specs.private.Again.{again_on, again_on_each, kept_again, kept_if_some, numbers, paired}
 
 -- what is there and what is to come are all, turn by turn
 pub turn : {X : Type 0} (before after new now_ahead ahead all : List X) → after ≡ before ++ new → now_ahead ≡ new ++ ahead → before ++ now_ahead ≡ all → after ++ ahead ≡ all
@@ -150,3 +151,28 @@ order_is test used beyond n is rest count =
     map-take f [] (suc n) = refl
     map-take f (x ∷ xs) zero = refl
     map-take f (x ∷ xs) (suc n) = ap (λ ys. f x ∷ ys) (map-take f xs n)
+
+-- ---- both numbers of bearers
+none_paired : (ids : List ℕ) → paired ids [] ≡ []
+none_paired [] = refl
+none_paired (id ∷ ids) = refl
+
+module _ (ns : List BearerId) (i : ℕ) (before after : List BearerNumbers) (all : List BearerNumbers) (below : i < length ns)
+    (whole : before ++ paired (drop i (numbers ns)) (drop i other_ids) ≡ all) where
+  next_is : drop i (numbers ns) ≡ (get_or ns i (record { 0 = 0 })).0 ∷ drop (i + 1) (numbers ns)
+  next_is = ahead_is ns i below ∙ ap (λ k. (get_or ns i (record { 0 = 0 })).0 ∷ drop k (numbers ns)) (sym (add-one i))
+
+  pub pair_taken : (new : BearerId) → i < 10 → new ≡ get_or others i new → after ≡ before ++ record { old = get_or ns i (record { 0 = 0 }); new = new } ∷ [] →
+      after ++ paired (drop (i + 1) (numbers ns)) (drop (i + 1) other_ids) ≡ all
+  pair_taken new within is grown =
+      let next : drop i other_ids ≡ new.0 ∷ drop (i + 1) other_ids = ahead_at others i new within is ∙ ap (λ k. new.0 ∷ drop k other_ids) (sym (add-one i)) in
+      turn before after (record { old = get_or ns i (record { 0 = 0 }); new = new } ∷ []) (paired (drop i (numbers ns)) (drop i other_ids))
+      (paired (drop (i + 1) (numbers ns)) (drop (i + 1) other_ids)) all grown (ap₂ paired next_is next) whole
+
+  pub pair_past : 10 ≤ i → after ≡ before → after ++ paired (drop (i + 1) (numbers ns)) (drop (i + 1) other_ids) ≡ all
+  pair_past past same =
+      let none : drop i other_ids ≡ [] = drop_of_length-le other_ids past in
+      let none_more : drop (i + 1) other_ids ≡ [] = drop_of_length-le other_ids (omega (arith, past)) in
+      turn before after [] (paired (drop i (numbers ns)) (drop i other_ids)) (paired (drop (i + 1) (numbers ns)) (drop (i + 1) other_ids)) all (same ∙ sym (append-nil before))
+      (ap (paired (drop i (numbers ns))) none ∙ none_paired (drop i (numbers ns))
+      ∙ sym (ap (paired (drop (i + 1) (numbers ns))) none_more ∙ none_paired (drop (i + 1) (numbers ns)))) whole

@@ -134,26 +134,27 @@ pub others_all : (n : ℕ) → 6 ≤ n → n ≤ 15 → Contains other_ids n
 others_all n low high = ascends_all 6 other_ids n others_ascend low (omega (arith, high))
 
 -- ---- places
-placed_there : (is_used : ℕ → Bool) (ns beyond : List ℕ) (x : ℕ) → Contains (placed is_used ns beyond) x → Contains ns x ⊎ Contains beyond x
+-- one that is placed has its own number, or is one of those beyond
+placed_there : (is_used : ℕ → Bool) (ns beyond : List ℕ) (x : ℕ) → Contains (placed is_used ns beyond) x → (Contains ns x × (is_used x ≡ true)) ⊎ Contains beyond x
 placed_there is_used [] beyond x there = absurd (omega (arith, there.1))
 placed_there is_used (n ∷ ns) [] x there =
     elim (cases_Bool (is_used n)) [
       | inl used ↦ elim (there_cases n (placed is_used ns []) x (rw used at there)) [
-        | inl same ↦ inl (0, omega arith, same)
-        | inr later ↦ elim (placed_there is_used ns [] x later) [ inl one ↦ inl (later_there n ns x one) | inr other ↦ inr other ]
+        | inl same ↦ inl ((0, omega arith, same), ap is_used (sym same) ∙ used)
+        | inr later ↦ elim (placed_there is_used ns [] x later) [ inl one ↦ inl (later_there n ns x one.0, one.1) | inr other ↦ inr other ]
       ]
-      | inr free ↦ elim (placed_there is_used ns [] x (rw free at there)) [ inl one ↦ inl (later_there n ns x one) | inr other ↦ inr other ]
+      | inr free ↦ elim (placed_there is_used ns [] x (rw free at there)) [ inl one ↦ inl (later_there n ns x one.0, one.1) | inr other ↦ inr other ]
     ]
 placed_there is_used (n ∷ ns) (b ∷ beyond) x there =
     elim (cases_Bool (is_used n)) [
       | inl used ↦ elim (there_cases n (placed is_used ns (b ∷ beyond)) x (rw used at there)) [
-        | inl same ↦ inl (0, omega arith, same)
-        | inr later ↦ elim (placed_there is_used ns (b ∷ beyond) x later) [ inl one ↦ inl (later_there n ns x one) | inr other ↦ inr other ]
+        | inl same ↦ inl ((0, omega arith, same), ap is_used (sym same) ∙ used)
+        | inr later ↦ elim (placed_there is_used ns (b ∷ beyond) x later) [ inl one ↦ inl (later_there n ns x one.0, one.1) | inr other ↦ inr other ]
       ]
       | inr free ↦ elim (there_cases b (placed is_used ns beyond) x (rw free at there)) [
         | inl same ↦ inr (0, omega arith, same)
         | inr later ↦ elim (placed_there is_used ns beyond x later) [
-          | inl one ↦ inl (later_there n ns x one)
+          | inl one ↦ inl (later_there n ns x one.0, one.1)
           | inr other ↦ inr (later_there b beyond x other)
         ]
       ]
@@ -170,7 +171,7 @@ placed_once is_used (n ∷ ns) [] one other apart =
     elim (cases_Bool (is_used n)) [
       | inl used ↦ rw used (
         absent_number n (placed is_used ns []) (λ there. elim (placed_there is_used ns [] n there) [
-          | inl again ↦ not_there n ns one.0 again
+          | inl again ↦ not_there n ns one.0 again.0
           | inr none ↦ apart n (first_there n ns) none
         ]),
         rest,
@@ -183,14 +184,14 @@ placed_once is_used (n ∷ ns) (b ∷ beyond) one other apart =
     elim (cases_Bool (is_used n)) [
       | inl used ↦ rw used (
         absent_number n (placed is_used ns (b ∷ beyond)) (λ there. elim (placed_there is_used ns (b ∷ beyond) n there) [
-          | inl again ↦ not_there n ns one.0 again
+          | inl again ↦ not_there n ns one.0 again.0
           | inr behind ↦ apart n (first_there n ns) behind
         ]),
         own,
       )
       | inr free ↦ rw free (
         absent_number b (placed is_used ns beyond) (λ there. elim (placed_there is_used ns beyond b there) [
-          | inl here ↦ apart b (later_there n ns b here) (first_there b beyond)
+          | inl here ↦ apart b (later_there n ns b here.0) (first_there b beyond)
           | inr again ↦ not_there b beyond other.0 again
         ]),
         next,
@@ -202,8 +203,17 @@ pub places_there : (p : Setting) (j : Journal) (x : ℕ) → Contains (places p 
 places_there p j x there =
     let used : List ℕ = bearers_used p j in
     elim (placed_there (λ id. is_bearer p j id) (take (length used) other_ids) (filter (λ id. nat_lt (default_id + length used) id) used) x there) [
-      | inl kept ↦ of_first (length used) other_ids x kept
+      | inl kept ↦ of_first (length used) other_ids x kept.0
       | inr beyond ↦ (filter_from (λ id. is_bearer p j id) other_ids x (filter_from (λ id. nat_lt (default_id + length used) id) used x beyond).0).0
+    ]
+
+-- each is that of some rule
+pub places_used : (p : Setting) (j : Journal) (x : ℕ) → Contains (places p j) x → is_bearer p j x ≡ true
+places_used p j x there =
+    let used : List ℕ = bearers_used p j in
+    elim (placed_there (λ id. is_bearer p j id) (take (length used) other_ids) (filter (λ id. nat_lt (default_id + length used) id) used) x there) [
+      | inl kept ↦ kept.1
+      | inr beyond ↦ (filter_from (λ id. is_bearer p j id) other_ids x (filter_from (λ id. nat_lt (default_id + length used) id) used x beyond).0).1
     ]
 
 places_once : (p : Setting) (j : Journal) → NumbersOnce (places p j)
@@ -217,7 +227,7 @@ places_once p j =
     let high = ltb-true (default_id + length used) x (filter_from (λ id. nat_lt (default_id + length used) id) used x beyond).1 in
     absurd (omega (arith, low, high)))
 
-all_once : (p : Setting) (j : Journal) → NumbersOnce (default_id ∷ places p j)
+pub all_once : (p : Setting) (j : Journal) → NumbersOnce (default_id ∷ places p j)
 unfolding Once
 all_once p j = (absent_number default_id (places p j) (λ there. let more = others_from default_id (places_there p j default_id there) in absurd (omega (arith, more))), places_once p j)
 

@@ -50,7 +50,7 @@ placed_beyond is_used (n ∷ ns) (b ∷ beyond) x room there =
     ]
 
 -- ---- numbers that go up by one
-front_from : (k n : ℕ) (xs : List ℕ) (x : ℕ) → Ascends k xs → Contains xs x → x < k + n → Contains (take n xs) x
+pub front_from : (k n : ℕ) (xs : List ℕ) (x : ℕ) → Ascends k xs → Contains xs x → x < k + n → Contains (take n xs) x
 unfolding Ascends
 front_from k n [] x up there less = absurd (omega (arith, there.1))
 front_from k zero (y ∷ xs) x up there less = absurd (omega (arith, less, ascends_from k (y ∷ xs) x up there))
@@ -118,15 +118,17 @@ each_all p j (id ∷ ids) r there among =
       | inr later ↦ Contains-append_right (rules_on p j id) (rules_on_each p j ids) r (each_all p j ids r there later)
     ]
 
-pub order_all : (p : Setting) (j : Journal) → Lawful p j → (r : Active) → Contains (now p j).rules r → Contains (rules_in_order p j) r
-order_all p j lawful r there =
+pub id_placed : (p : Setting) (j : Journal) → Lawful p j → (r : Active) → Contains (now p j).rules r → Contains (default_id ∷ places p j) ((now p j).id_of r.properties.qos)
+id_placed p j lawful r there =
     let bound = lawful_bound p j lawful in
     let id : ℕ = (now p j).id_of r.properties.qos in
-    each_all p j (default_id ∷ places p j) r there
-    (elim (cases_Bool (same_qos r.properties.qos p.default_qos)) [
+    elim (cases_Bool (same_qos r.properties.qos p.default_qos)) [
       | inl is ↦ let five = bound.five r.properties.qos is in (0, omega arith, sym five)
       | inr isnt ↦
           let range = bound.others r.properties.qos (has_own p (now p j).rules r there) isnt in
           later_there default_id (places p j) id
           (places_all p j id (others_all id range.0 range.1) (any_from (λ (s : Active). (now p j).id_of s.properties.qos == id) (now p j).rules r there (eq-eqb id id refl)))
-    ])
+    ]
+
+pub order_all : (p : Setting) (j : Journal) → Lawful p j → (r : Active) → Contains (now p j).rules r → Contains (rules_in_order p j) r
+order_all p j lawful r there = each_all p j (default_id ∷ places p j) r there (id_placed p j lawful r there)

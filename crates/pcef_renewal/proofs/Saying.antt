@@ -15,7 +15,7 @@ use Rattle.pcef_model.specs.Commands.{activated, add_key, at_session_level, is_a
 use Rattle.pcef_model.specs.Entries.{Journal}
 use Rattle.pcef_model.specs.Generations.{Generation, add_if_some, made_by, rules_after, slots_of, still_on}
 use Rattle.pcef_model.specs.Journals.{grant, level_of, no_triggers, now, slots, subscribed, unreported}
-use Rattle.pcef_model.specs.Refusals.{was_closed, was_terminated}
+use Rattle.pcef_model.specs.Refusals.{was_closed}
 use Rattle.pcef_model.specs.Setting.{Setting, same_name}
 use Rattle.pcef_model.proofs.Growth.{now_after_table}
 use Rattle.pcef_model.proofs.Levels.{among_add, session_now}
@@ -39,7 +39,6 @@ pub record Says (p : Setting) (j k : Journal) (on : List (List ℕ)) (rules : Li
   pub grants : (key : List ℕ) → is_among key on ≡ true → grant k key ≡ Some (grant_after (grant j key) (unreported p j key))
   pub events_are : subscribed k ≡ events
   pub closed_is : was_closed k ≡ closed
-  pub goes_on : was_terminated k ≡ false
 
 pub says_nothing : (p : Setting) (j : Journal) → Says p j [] [] [] no_triggers false
 unfolding made_by slots_of subscribed
@@ -51,7 +50,6 @@ says_nothing p j = record {
   grants = λ key there. absurd cc;
   events_are = refl;
   closed_is = refl;
-  goes_on = refl;
 }
 
 -- ---- keys stay on that keep their rules
@@ -155,7 +153,6 @@ says_monitor p j k on events closed l says new =
       grants = λ key there. grant_now key (says.grants key) (sym (among_push key l on) ∙ there);
       events_are = says.events_are;
       closed_is = says.closed_is;
-      goes_on = says.goes_on;
     }
   where
     from : (a b : Bool) → ((a || false) || b) ≡ ((a || b) || false)
@@ -187,7 +184,6 @@ says_triggers p j k on rules events closed set says = record {
   grants = says.grants;
   events_are = refl;
   closed_is = says.closed_is;
-  goes_on = says.goes_on;
 }
 
 -- ---- rules
@@ -203,7 +199,7 @@ any_push t (y ∷ xs) x = ap (λ b. t y || b) (any_push t xs x) ∙ from (t y) (
     from true b d = refl
     from false b d = refl
 
-among_named : (key : List ℕ) (named : Option (List ℕ)) (keys : List (List ℕ)) → is_among key (add_if_some named keys) ≡ (is_among key keys || is_key key named)
+pub among_named : (key : List ℕ) (named : Option (List ℕ)) (keys : List (List ℕ)) → is_among key (add_if_some named keys) ≡ (is_among key keys || is_key key named)
 among_named key None keys = from (is_among key keys)
   where
     from : (b : Bool) → b ≡ (b || false)
@@ -233,7 +229,6 @@ says_rule p j k on rules events closed r says returns new =
       grants = λ key there. plain.grants key ∙ says.grants key there;
       events_are = plain.events ∙ says.events_are;
       closed_is = plain.open_yet ∙ says.closed_is;
-      goes_on = plain.goes_on ∙ says.goes_on;
     }
   where
     from : (a b d : Bool) → ((a || b) || d) ≡ (a || (b || d))
@@ -259,7 +254,6 @@ says_close p j k on events closed says =
       grants = says.grants;
       events_are = says.events_are;
       closed_is = refl;
-      goes_on = says.goes_on;
     }
   where
     none_stay : (rules : List Active) → filter (λ r. false) rules ≡ []

@@ -1,7 +1,11 @@
 pub mod Accepting
+pub mod Alike
+pub mod Counting
+pub mod GoingOn
 pub mod Likeness
-pub mod Noted
+pub mod Maps
 pub mod Reaching
 pub mod Renewal
 pub mod Renewing
+pub mod Reporting
 pub mod private

@@ -1,19 +1,17 @@
 -- When a new session is like an old one (own choice): what it does from then on is the same, up to the numbers of bearers.
-use Rattle.std.specs.Prelude.{ℕ, ◌≡◌, ◌≤◌, ◌<◌, ◌+◌, ◌↔◌, Bool, true, false, ◌||◌, List, [], None, Contains}
-use Rattle.pcef_packet.specs.declared.header.Header.{Header}
+use Rattle.std.specs.Prelude.{ℕ, ◌≡◌, ◌≤◌, ◌<◌, ◌+◌, ◌↔◌, Bool, true, ◌||◌, List, [], ◌∷◌, None, Contains}
 use Rattle.pcef_rule.specs.declared.quantity.Qos.{Qos}
 use Rattle.pcef_model.specs.declared.command.Command.TheVariants.{Terminate}
 use Rattle.pcef_model.specs.ActiveRules.{Active, has_key}
 use Rattle.pcef_model.specs.Commands.{is_among}
 use Rattle.pcef_model.specs.Entries.{Journal}
 use Rattle.pcef_model.specs.Generations.{has_bearer}
-use Rattle.pcef_model.specs.Journals.{counted, counts_in, decision, grant, level_of, now, reported, slots, subscribed, unreported}
+use Rattle.pcef_model.specs.Journals.{counted, grant, level_of, now, reported, slots, subscribed, unreported}
 use Rattle.pcef_model.specs.Lawful.{Lawful}
-use Rattle.pcef_model.specs.Refusals.{first_of, limited_count, refusals, total_now, was_closed, was_terminated}
+use Rattle.pcef_model.specs.Refusals.{first_of, limited_count, refusals, total_now, was_closed}
 use Rattle.pcef_model.specs.Reports.{after_command, is_reached_by}
 use Rattle.pcef_model.specs.Setting.{Setting}
 use Rattle.pcef_renewal.specs.Accepting.{entered}
-use Rattle.pcef_renewal.specs.Noted.{noted_of}
 use Rattle.pcef_renewal.specs.Renewal.{out_of_reach, renewal}
 use Rattle.pcef_renewal.specs.Renewing.{commands_needed}
 
@@ -55,21 +53,24 @@ RenewalsNeedWhatTheySay = (p : Setting) (j : Journal) → Lawful p j → limited
 abbrev pub RenewalsAreLike : Type 0
 RenewalsAreLike = (p : Setting) (j : Journal) → Lawful p j → Like p j (entered (renewal p j) [])
 
--- what was noted of the commands of the one goes for the other
-abbrev pub NotesGoOn : Type 0
-NotesGoOn = (p : Setting) (j : Journal) → Lawful p j → was_terminated j ≡ false → noted_of (entered (renewal p j) []) ≡ noted_of j
+-- ---- octets over any number of renewals
+-- each of these sessions was lawful, and accepts a Terminate
+abbrev pub AreEnded : Setting → List Journal → Type 0
+AreEnded p [] = Unit {0}
+AreEnded p (j ∷ ended) = (Lawful p j × (first_of (refusals p j Terminate) ≡ None)) × AreEnded p ended
 
--- ---- what follows
--- each packet is decided by the same rule, or by none
-abbrev pub LikeSessionsDecideAlike : Type 0
-LikeSessionsDecideAlike = (p : Setting) (j k : Journal) → Like p j k → (header : Header) → decision p (now p k) header ≡ decision p (now p j) header
+-- the octets of a key that they reported, those at their Terminate with them
+abbrev pub reported_in_all : Setting → List Journal → List ℕ → ℕ
+reported_in_all p [] key = 0
+reported_in_all p (j ∷ ended) key = reported (after_command p j Terminate) key + reported_in_all p ended key
 
--- and counts for the same keys
-abbrev pub LikeSessionsCountAlike : Type 0
-LikeSessionsCountAlike = (p : Setting) (j k : Journal) → Like p j k → (key : List ℕ) (header : Header) → counts_in p (now p k) key header ≡ counts_in p (now p j) key header
+-- the octets that they counted for it
+abbrev pub counted_in_all : Setting → List Journal → List ℕ → ℕ
+counted_in_all p [] key = 0
+counted_in_all p (j ∷ ended) key = counted p j key + counted_in_all p ended key
 
--- the octets that the old session counted for a key, and those of any later journal of the new one, are those that both
--- reported and what the new one hasn't reported yet
+-- the octets that all sessions counted for a key, those that were ended and the one that goes on, are those that they
+-- reported and what the last one hasn't reported yet, however often there was a renewal
 abbrev pub OctetsAddUp : Type 0
-OctetsAddUp = (p : Setting) (j k : Journal) → Lawful p j → first_of (refusals p j Terminate) ≡ None → Lawful p k → (key : List ℕ) → is_among key (slots p j) ≡ true →
-    reported (after_command p j Terminate) key + reported k key + unreported p k key ≡ counted p j key + counted p k key
+OctetsAddUp = (p : Setting) (ended : List Journal) (k : Journal) → AreEnded p ended → Lawful p k → (key : List ℕ) →
+    reported_in_all p ended key + reported k key + unreported p k key ≡ counted_in_all p ended key + counted p k key

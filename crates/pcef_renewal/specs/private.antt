@@ -1,3 +1,3 @@
 -- What only private clauses speak of: a reader of the public ones may pass over it.
 pub mod Again
-pub mod Noting
+pub mod Answering

@@ -2,23 +2,23 @@
 //!
 //! Its contracts say: which commands these are, read off the old session's journal; a new session with the same profile and
 //! catalog takes all of them, without a report; a session is ended and a new one begun with them in one step, or nothing
-//! changes.
+//! changes; and whatever both accept from there on, they stay alike.
 //!
-//! In the order of reading: `noted`, `places`, `list`, `renewing`, `world`, `laws`.
+//! In the order of reading: `places`, `list`, `renewing`, `world`, `laws`.
 #![tactic(auto)]
 
 mod laws;
 mod list;
-mod noted;
 mod places;
 mod renewing;
 mod world;
 
 pub use laws::{
-    like_sessions_judge_alike, new_sessions_are_like_old_ones, notes_keep_up,
-    out_of_reach_is_not_reached, renewals_are_taken,
+    alike_sessions_reach_alike, alike_sessions_stay_alike, like_sessions_judge_alike,
+    new_sessions_are_like_old_ones, out_of_reach_is_not_reached, renewals_are_taken,
+    renewals_number_anew, sessions_go_on_alike,
 };
 pub use list::{ListFault, OUT_OF_REACH, renewal};
-pub use noted::Noted;
+pub use places::BearerNumbers;
 pub use renewing::{RenewRefusal, Renewed, renew};
 pub use world::{RenewedWorld, renew_world};

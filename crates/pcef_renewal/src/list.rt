@@ -2,11 +2,9 @@
 
 ghost use Rattle.std.specs.Prelude.{◌≡◌, ◌++◌, ◌↔◌, Err, IfOk, OnOk, map, slice_get, true};
 ghost use Rattle.pcef_model.specs.Refusals.{was_terminated};
-ghost use Rattle.pcef_renewal.specs.Noted.{noted_of};
 ghost use Rattle.pcef_renewal.specs.Renewal.{grant_after, is_any, renewal, rest_of, rule_again, rules_in_order};
 ghost use Rattle.pcef_renewal.specs.private.Again.{again_on, again_on_each, closing, kept_if_some, monitor_of, monitors_of, numbers, source_again, subscription};
 
-use crate::noted::Noted;
 use crate::places::places;
 use pcef_active::ActiveRules;
 use pcef_bearer::{Bound, DEFAULT_BEARER};
@@ -191,42 +189,32 @@ fn push_close(list: &mut Vec<Command>, closed: bool) -> Result<(), AllocError>
 }
 
 /// The list of a session that isn't terminated.
-pub(crate) fn list_of(
-    alloc: Global,
-    session: &SessionState,
-    noted: Noted,
-) -> Result<Vec<Command>, AllocError>
-    requires { noted ≡ noted_of session.now.journal }
+pub(crate) fn list_of(alloc: Global, session: &SessionState) -> Result<Vec<Command>, AllocError>
     ensures { IfOk result (λ list. list.items
         ≡ renewal session.now.setting session.now.journal) }
 {
     let mut list = Vec::new(alloc);
     push_monitors(&mut list, session.usage().states())?;
-    push_subscription(&mut list, noted.subscribed)?;
+    push_subscription(&mut list, session.subscribed())?;
     push_rules(alloc, &mut list, session)?;
-    push_close(&mut list, noted.closed)?;
+    push_close(&mut list, session.is_closed())?;
     Ok(list)
 }
 
 /// The commands that make a new session with the same profile and catalog go on like this one, or the first fault in the
 /// order of [`ListFault`]. They name, in this order: each key that is on, with its level and what is left of its grant;
-/// the subscribed events; each active rule, bearer by bearer; and the Close of a session that was closed. `noted` is what
-/// was noted of the session's commands. Takes memory for the list.
-pub fn renewal(
-    alloc: Global,
-    session: &SessionState,
-    noted: Noted,
-) -> Result<Vec<Command>, ListFault>
-    requires { noted ≡ noted_of session.now.journal }
+/// the subscribed events; each active rule, bearer by bearer; and the Close of a session that was closed. Takes memory for
+/// the list.
+pub fn renewal(alloc: Global, session: &SessionState) -> Result<Vec<Command>, ListFault>
     ensures terminated { (result ≡ Err ListFault.Terminated)
         ↔ (was_terminated session.now.journal ≡ true) }
     ensures list { IfOk result (λ list. list.items
         ≡ renewal session.now.setting session.now.journal) }
 {
-    if noted.terminated {
+    if session.is_terminated() {
         return Err(ListFault::Terminated);
     }
-    match list_of(alloc, session, noted) {
+    match list_of(alloc, session) {
         Ok(list) => Ok(list),
         Err(AllocError) => Err(ListFault::NoMemory),
     }

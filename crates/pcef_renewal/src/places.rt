@@ -1,13 +1,24 @@
-//! The order in which bearers come in a new session.
+//! The order in which bearers come in a new session, and the numbers that they get.
 
 ghost use Rattle.std.specs.Prelude.{◌≡◌, ◌+◌, IfOk, filter, length, nat_lt};
 ghost use Rattle.pcef_model.specs.Bearers.{default_id, other_ids};
+ghost use Rattle.pcef_renewal.specs.Maps.{bearers_again};
 ghost use Rattle.pcef_renewal.specs.Renewal.{placed, placed_from};
-ghost use Rattle.pcef_renewal.specs.private.Again.{is_used, numbers};
+ghost use Rattle.pcef_renewal.specs.private.Again.{is_used, numbers, paired};
 
 use pcef_bearer::{Bound, DEFAULT_BEARER};
 use pcef_rule::BearerId;
+use pcef_session::SessionState;
 use std::alloc::{AllocError, Global};
+
+/// A bearer beside the default one, by its number in the old session and in the new one: 6 to 15 each.
+#[derive(Clone, Copy, Debug, PartialEq, Eq)]
+pub struct BearerNumbers {
+    /// Its number in the old session.
+    pub old: BearerId,
+    /// Its number in the new session.
+    pub new: BearerId,
+}
 
 /// How many bearers there may be beside the default one.
 const OTHERS: usize = 10;
@@ -94,4 +105,35 @@ pub(crate) fn places(alloc: Global, bound: &[Bound]) -> Result<Vec<BearerId>, Al
     let others: &[BearerId] = &OTHER_BEARERS;
     let numbered = &others[..used.len()];
     placed(alloc, numbered, &beyond, bound)
+}
+
+/// These bearers with the numbers that the new session gives in turn, as far as there are some.
+fn paired(alloc: Global, others: &[BearerId]) -> Result<Vec<BearerNumbers>, AllocError>
+    ensures { IfOk result (λ pairs. pairs.items ≡ paired (numbers others.now) other_ids) }
+{
+    let mut pairs = Vec::new(alloc);
+    for (place, old) in others.iter().enumerate() {
+        if let Some(new) = OTHER_BEARERS.get(place) {
+            pairs.push(BearerNumbers {
+                old: *old,
+                new: *new,
+            })?;
+        }
+    }
+    Ok(pairs)
+}
+
+/// The bearers beside the default one by both numbers, in the order of the new ones.
+pub(crate) fn bearers_again(
+    alloc: Global,
+    session: &SessionState,
+) -> Result<Vec<BearerNumbers>, AllocError>
+    ensures { IfOk result (λ pairs. pairs.items
+        ≡ bearers_again session.now.setting session.now.journal) }
+{
+    // For its contract: it is lawful.
+    let _journal = session.journal();
+    let bound = session.bearers().bound();
+    let others = places(alloc, bound)?;
+    paired(alloc, &others)
 }

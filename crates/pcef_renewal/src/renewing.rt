@@ -2,18 +2,19 @@
 
 ghost use Rattle.std.specs.Prelude.{◌≡◌, ◌≤◌, IfErr, IfOk, OnErr, OnOk, if◌then◌else◌, length};
 ghost use Rattle.pcef_model.specs.declared.command.Command.TheVariants as of;
+ghost use Rattle.pcef_model.specs.Lawful.{Lawful};
 ghost use Rattle.pcef_model.specs.Refusals.{first_of};
 ghost use Rattle.pcef_session.specs.Answers.{DoesCommand, IsOpened};
 ghost use Rattle.pcef_session.specs.SessionModel.{HasAtLeast};
 ghost use Rattle.pcef_renewal.specs.Accepting.{AreTaken, entered};
 ghost use Rattle.pcef_renewal.specs.Likeness.{Like};
-ghost use Rattle.pcef_renewal.specs.Noted.{noted_of};
+ghost use Rattle.pcef_renewal.specs.Maps.{bearers_again};
 ghost use Rattle.pcef_renewal.specs.Renewal.{is_any, renewal};
 ghost use Rattle.pcef_renewal.specs.Renewing.{IsRenewed, RefusesRenewal, Renews, commands_needed, renew_refusals};
 ghost use Rattle.pcef_renewal.specs.private.Again.{monitors_of};
 
 use crate::list::{is_any, list_of};
-use crate::noted::Noted;
+use crate::places::{BearerNumbers, bearers_again};
 use pcef_model::{Accepted, Command, Profile, TriggerSet};
 use pcef_session::SessionState;
 use pcef_usage::KeyState;
@@ -44,6 +45,9 @@ pub struct Renewed {
     pub session: SessionState,
     /// The commands that it took: the renewal.
     pub list: Vec<Command>,
+    /// The bearers beside the default one, by their numbers in the old session and in the new one, in the order of the new
+    /// ones: 6, 7 .. The default bearer has 5 in both.
+    pub bearers: Vec<BearerNumbers>,
     /// What the old session answered to its Terminate: which of its reports this made.
     pub ended: Accepted,
 }
@@ -84,12 +88,11 @@ fn count_subscriptions(subscribed: TriggerSet) -> usize
 }
 
 /// How many commands of its budget the new session needs for the renewal.
-fn commands_needed(session: &SessionState, noted: Noted) -> usize
-    requires { noted ≡ noted_of session.now.journal }
+fn commands_needed(session: &SessionState) -> usize
     ensures { result ≡ commands_needed session.now.setting session.now.journal }
 {
     let keys = count_on(session.usage().states());
-    let subscriptions = count_subscriptions(noted.subscribed);
+    let subscriptions = count_subscriptions(session.subscribed());
     let bound = session.bearers().bound();
     keys + subscriptions + bound.len()
 }
@@ -143,33 +146,59 @@ fn begin(
 }
 
 /// Why a session isn't renewed, out of memory aside.
-pub(crate) fn refusal(session: &SessionState, noted: Noted) -> Option<RenewRefusal>
-    requires { noted ≡ noted_of session.now.journal }
+fn refusal(session: &SessionState) -> Option<RenewRefusal>
     ensures { result ≡ first_of (renew_refusals session.now.setting session.now.journal) }
 {
-    if noted.terminated {
+    if session.is_terminated() {
         return Some(RenewRefusal::Terminated);
     }
     let attached = session.attached_count() as u8;
     if attached > 0 {
         return Some(RenewRefusal::WorkersAttached(attached));
     }
-    if session.profile().commands as usize <= commands_needed(session, noted) {
+    if session.profile().commands as usize <= commands_needed(session) {
         return Some(RenewRefusal::NoCommandLeft);
     }
     None
 }
 
+/// What a session is renewed by.
+#[derive(Drop)]
+pub(crate) struct Plan {
+    /// The renewal.
+    pub(crate) list: Vec<Command>,
+    /// The bearers beside the default one.
+    pub(crate) bearers: Vec<BearerNumbers>,
+}
+
+/// What a session is renewed by, or why it isn't.
+pub(crate) fn plan_for(alloc: Global, session: &SessionState) -> Result<Plan, RenewRefusal>
+    ensures refused { IfErr result (RefusesRenewal session.now) }
+    ensures accepted { OnOk result (Renews session.now) }
+    ensures lawful { OnOk result (Lawful session.now.setting session.now.journal) }
+    ensures list { IfOk result (λ plan. plan.list.items
+        ≡ renewal session.now.setting session.now.journal) }
+    ensures bearers { IfOk result (λ plan. plan.bearers.items
+        ≡ bearers_again session.now.setting session.now.journal) }
+{
+    if let Some(refusal) = refusal(session) {
+        return Err(refusal);
+    }
+    // For its contract: it is lawful.
+    let _journal = session.journal();
+    let Ok(list) = list_of(alloc, session) else {
+        return Err(RenewRefusal::NoMemory);
+    };
+    match bearers_again(alloc, session) {
+        Ok(bearers) => Ok(Plan { list, bearers }),
+        Err(_) => Err(RenewRefusal::NoMemory),
+    }
+}
+
 /// Renews a session: ends it by a Terminate, which reports all its usage, and begins a new one in its place, with the same
 /// profile and catalog, which takes its renewal. Or answers the first refusal in the order of [`RenewRefusal`], which
-/// changes nothing and leaves no less room. The old session stays where it was, with its reports. `noted` is what was noted
-/// of its commands, and goes for the new session.
-pub fn renew(
-    alloc: Global,
-    session: &mut SessionState,
-    noted: Noted,
-) -> Result<Renewed, RenewRefusal>
-    requires { noted ≡ noted_of session.old.journal }
+/// changes nothing and leaves no less room. The old session stays where it was, with its reports.
+pub fn renew(alloc: Global, session: &mut SessionState) -> Result<Renewed, RenewRefusal>
     ensures refused { IfErr result (RefusesRenewal session.old) }
     ensures accepted { OnOk result (Renews session.old) }
     ensures unchanged { OnErr result (session.new.journal ≡ session.old.journal) }
@@ -179,19 +208,16 @@ pub fn renew(
     ensures renewed { IfOk result (λ r. IsRenewed session.old r.session) }
     ensures like { IfOk result
         (λ r. Like session.old.setting session.old.journal r.session.journal) }
-    ensures noted { IfOk result (λ r. noted_of r.session.journal ≡ noted) }
     ensures list { IfOk result
         (λ r. r.list.items ≡ renewal session.old.setting session.old.journal) }
+    ensures bearers { IfOk result
+        (λ r. r.bearers.items ≡ bearers_again session.old.setting session.old.journal) }
     ensures setting { session.new.setting ≡ session.old.setting }
     ensures forgotten { session.new.forgotten ≡ session.old.forgotten }
 {
-    if let Some(refusal) = refusal(session, noted) {
-        return Err(refusal);
-    }
-    // For its contract: the journal is lawful.
-    let _journal = session.journal();
-    let Ok(list) = list_of(alloc, session, noted) else {
-        return Err(RenewRefusal::NoMemory);
+    let Plan { list, bearers } = match plan_for(alloc, session) {
+        Ok(plan) => plan,
+        Err(refusal) => return Err(refusal),
     };
     let Ok(new) = begin(alloc, session, &list) else {
         return Err(RenewRefusal::NoMemory);
@@ -200,6 +226,7 @@ pub fn renew(
         Ok(ended) => Ok(Renewed {
             session: new,
             list,
+            bearers,
             ended,
         }),
         Err(_) => Err(RenewRefusal::NoMemory),

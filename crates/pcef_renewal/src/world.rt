@@ -2,19 +2,17 @@
 
 ghost use Rattle.std.specs.Prelude.{◌≡◌, IfErr, IfOk, OnErr, OnOk};
 ghost use Rattle.pcef_model.specs.declared.command.Command.TheVariants as of;
-ghost use Rattle.pcef_model.specs.Lawful.{Lawful};
 ghost use Rattle.pcef_session.specs.Answers.{DoesCommand};
 ghost use Rattle.pcef_world.specs.Worlds.{IsOpenedWorld};
 ghost use Rattle.pcef_renewal.specs.Accepting.{AreTaken, entered};
 ghost use Rattle.pcef_renewal.specs.Likeness.{Like};
-ghost use Rattle.pcef_renewal.specs.Noted.{noted_of};
+ghost use Rattle.pcef_renewal.specs.Maps.{bearers_again};
 ghost use Rattle.pcef_renewal.specs.Renewal.{renewal};
 ghost use Rattle.pcef_renewal.specs.Renewing.{IsRenewed, RefusesRenewal, Renews};
-ghost use Rattle.pcef_renewal.specs.private.Noting.{IsAnswered, accepted_of};
+ghost use Rattle.pcef_renewal.specs.private.Answering.{IsAnswered, accepted_of};
 
-use crate::list::list_of;
-use crate::noted::Noted;
-use crate::renewing::{RenewRefusal, copy_profile, refusal};
+use crate::places::BearerNumbers;
+use crate::renewing::{Plan, RenewRefusal, copy_profile, plan_for};
 use pcef_catalog::Detects;
 use pcef_model::{Accepted, Command, Step};
 use pcef_world::{StepAnswer, WorldState};
@@ -27,6 +25,8 @@ pub struct RenewedWorld {
     pub world: WorldState,
     /// The commands that it took: the renewal.
     pub list: Vec<Command>,
+    /// The bearers beside the default one, as those of [`crate::Renewed`].
+    pub bearers: Vec<BearerNumbers>,
     /// What the old session answered to its Terminate: which of its reports this made.
     pub ended: Accepted,
 }
@@ -110,37 +110,13 @@ fn begin<C: Detects>(
     Ok(new)
 }
 
-/// The renewal, or why the session isn't renewed.
-fn list_for(alloc: Global, world: &WorldState, noted: Noted) -> Result<Vec<Command>, RenewRefusal>
-    requires { noted ≡ noted_of world.now.session.journal }
-    ensures refused { IfErr result (RefusesRenewal world.now.session) }
-    ensures accepted { OnOk result (Renews world.now.session) }
-    ensures lawful { OnOk result
-        (Lawful world.now.session.setting world.now.session.journal) }
-    ensures list { IfOk result (λ list. list.items
-        ≡ renewal world.now.session.setting world.now.session.journal) }
-{
-    let session = world.session();
-    if let Some(refusal) = refusal(session, noted) {
-        return Err(refusal);
-    }
-    // For its contract: it is lawful.
-    let _journal = session.journal();
-    match list_of(alloc, session, noted) {
-        Ok(list) => Ok(list),
-        Err(_) => Err(RenewRefusal::NoMemory),
-    }
-}
-
 /// Renews a session that has a place for workers, as [`crate::renew`] does. A session with a worker is refused.
 pub fn renew_world<C: Detects>(
     alloc: Global,
     world: &mut WorldState,
     catalog: &C,
-    noted: Noted,
 ) -> Result<RenewedWorld, RenewRefusal>
-    requires noted { noted ≡ noted_of world.old.session.journal }
-    requires catalog { C.offers catalog.now ≡ world.old.session.setting.catalog }
+    requires { C.offers catalog.now ≡ world.old.session.setting.catalog }
     ensures refused { IfErr result (RefusesRenewal world.old.session) }
     ensures accepted { OnOk result (Renews world.old.session) }
     ensures unchanged { OnErr result (world.new.session.journal ≡ world.old.session.journal) }
@@ -149,12 +125,13 @@ pub fn renew_world<C: Detects>(
     ensures renewed { IfOk result (λ r. IsRenewed world.old.session r.world.session) }
     ensures like { IfOk result
         (λ r. Like world.old.session.setting world.old.session.journal r.world.session.journal) }
-    ensures noted { IfOk result (λ r. noted_of r.world.session.journal ≡ noted) }
+    ensures bearers { IfOk result (λ r. r.bearers.items
+        ≡ bearers_again world.old.session.setting world.old.session.journal) }
     ensures setting { world.new.session.setting ≡ world.old.session.setting }
     ensures forgotten { world.new.session.forgotten ≡ world.old.session.forgotten }
 {
-    let list = match list_for(alloc, world, noted) {
-        Ok(list) => list,
+    let Plan { list, bearers } = match plan_for(alloc, world.session()) {
+        Ok(plan) => plan,
         Err(refusal) => return Err(refusal),
     };
     let Ok(new) = begin(alloc, world, catalog, &list) else {
@@ -164,6 +141,7 @@ pub fn renew_world<C: Detects>(
         Ok(ended) => Ok(RenewedWorld {
             world: new,
             list,
+            bearers,
             ended,
         }),
         Err(_) => Err(RenewRefusal::NoMemory),

@@ -7,7 +7,7 @@ ghost use Rattle.pcef_bearer.specs.Standing.{binding_of};
 ghost use Rattle.pcef_model.specs.Outcomes.{AttachStep, Opens};
 ghost use Rattle.pcef_model.specs.Entries.{lane};
 ghost use Rattle.pcef_model.specs.Generations.{at_first};
-ghost use Rattle.pcef_model.specs.Journals.{gen};
+ghost use Rattle.pcef_model.specs.Journals.{gen, subscribed};
 ghost use Rattle.pcef_model.specs.Lawful.{Lawful};
 ghost use Rattle.pcef_model.specs.Refusals.{attach_faults, first_of, open_faults, total_now, was_closed, was_terminated};
 ghost use Rattle.pcef_model.specs.ProfileModel.{setting_of};
@@ -149,11 +149,33 @@ impl SessionState {
         })
     }
 
+    /// The events that are subscribed: those of the last Triggers, and none before it (TS 29.212, clause 5.3.7).
+    /// Takes no memory.
+    pub fn subscribed(&self) -> TriggerSet
+        ensures { result ≡ subscribed self.now.journal }
+    {
+        self.subscribed
+    }
+
+    /// Whether the session was closed: it may still be terminated. Takes no memory.
+    pub fn is_closed(&self) -> bool
+        ensures { result ≡ was_closed self.now.journal }
+    {
+        self.closed
+    }
+
+    /// Whether the session was terminated, so that each further command is refused. Takes no memory.
+    pub fn is_terminated(&self) -> bool
+        ensures { result ≡ was_terminated self.now.journal }
+    {
+        self.terminated
+    }
+
     /// Whether the session was closed or terminated.
     pub fn is_ended(&self) -> bool
         ensures { result ≡ (was_closed self.now.journal || was_terminated self.now.journal) }
     {
-        self.closed || self.terminated
+        self.is_closed() || self.is_terminated()
     }
 
     /// Why no worker can be attached, out of memory aside: the first reason in the order of [`AttachFault`].

@@ -9,6 +9,7 @@ use Rattle.pcef_model.specs.declared.trigger.TriggerSet.{TriggerSet}
 use Rattle.pcef_table.specs.declared.entry.Source.{Source}
 use Rattle.pcef_table.specs.declared.entry.Source.TheVariants.{Dynamic, Predefined}
 use Rattle.pcef_usage.specs.declared.usage.KeyState.{KeyState}
+use Rattle.pcef_renewal.specs.declared.places.BearerNumbers.{BearerNumbers}
 use Rattle.pcef_renewal.specs.Renewal.{grant_after, is_any}
 
 -- ---- keys
@@ -46,6 +47,12 @@ number id = id.0
 
 abbrev pub numbers : List BearerId → List ℕ
 numbers ids = map number ids
+
+-- one by one
+abbrev pub paired : List ℕ → List ℕ → List BearerNumbers
+paired [] ns = []
+paired (id ∷ ids) [] = []
+paired (id ∷ ids) (n ∷ ns) = record { old = record { 0 = id }; new = record { 0 = n } } ∷ paired ids ns
 
 -- some rule is bound to the bearer with this id
 abbrev pub is_used : List Bound → ℕ → Bool

@@ -3,7 +3,7 @@
 use crate::tests::expect_equal;
 use crate::tests::worked::{install, make_all, opened_world, text_of};
 use pcef_built_in::ShapedCatalog;
-use pcef_renewal::{Noted, renewal};
+use pcef_renewal::renewal;
 use std::alloc::Global;
 use std::test::Fail;
 
@@ -11,9 +11,8 @@ use std::test::Fail;
 fn renewal_after(alloc: Global, lines: &[&str]) -> Result<String, Fail> {
     let catalog = ShapedCatalog::built_in(alloc)?;
     let mut world = opened_world(alloc, &catalog)?;
-    let mut noted = Noted::at_first();
-    make_all(alloc, &mut world, &catalog, &mut noted, lines)?;
-    let list = renewal(alloc, world.session(), noted)?;
+    make_all(alloc, &mut world, &catalog, lines)?;
+    let list = renewal(alloc, world.session())?;
     text_of(alloc, &list)
 }
 

@@ -3,19 +3,20 @@
 use crate::tests::expect_equal;
 use crate::tests::worked::{install, opened, take_all};
 use pcef_built_in::ShapedCatalog;
-use pcef_renewal::{ListFault, Noted, RenewRefusal, renew, renewal};
+use pcef_renewal::{BearerNumbers, ListFault, RenewRefusal, renew, renewal};
 use pcef_session::SessionState;
 use std::alloc::Global;
 use std::test::Fail;
 
 /// Of a renewed session: how many commands the old and the new one took, how many reports each made, how many rules are
-/// active in the new one, and its bearers' numbers.
+/// active in the new one, the numbers of their bearers, and the old and the new numbers that are answered.
 #[derive(Debug, PartialEq, Eq, Drop)]
 struct Outcome {
     commands: (u64, u64),
     reports: (u64, u64),
     rules: usize,
     bearers: [Option<u8>; 2],
+    renumbered: [Option<(u8, u8)>; 3],
 }
 
 /// The numbers of the bearers of the first two rules.
@@ -27,12 +28,25 @@ fn bearers_of(session: &SessionState) -> [Option<u8>; 2] {
     ]
 }
 
+/// The old and the new number of the bearer at a place.
+fn numbers_at(bearers: &[BearerNumbers], place: usize) -> Option<(u8, u8)> {
+    bearers.get(place).map(|pair| (pair.old.0, pair.new.0))
+}
+
+/// Those of the first three bearers.
+fn numbers_of(bearers: &[BearerNumbers]) -> [Option<(u8, u8)>; 3] {
+    [
+        numbers_at(bearers, 0),
+        numbers_at(bearers, 1),
+        numbers_at(bearers, 2),
+    ]
+}
+
 fn renewed_outcome(alloc: Global, lines: &[&str]) -> Result<Outcome, Fail> {
     let catalog = ShapedCatalog::built_in(alloc)?;
     let mut session = opened(alloc, &catalog)?;
-    let mut noted = Noted::at_first();
-    take_all(alloc, &mut session, &mut noted, lines)?;
-    let renewed = renew(alloc, &mut session, noted)?;
+    take_all(alloc, &mut session, lines)?;
+    let renewed = renew(alloc, &mut session)?;
     Ok(Outcome {
         commands: (
             session.journal().commands_len(),
@@ -44,6 +58,7 @@ fn renewed_outcome(alloc: Global, lines: &[&str]) -> Result<Outcome, Fail> {
         ),
         rules: renewed.session.active().len(),
         bearers: bearers_of(&renewed.session),
+        renumbered: numbers_of(&renewed.bearers),
     })
 }
 
@@ -69,6 +84,7 @@ fn an_old_session_ends_and_a_new_one_goes_on(rt: HostRuntime) -> Result<(), Fail
             reports: (1, 0),
             rules: 2,
             bearers: [Some(6), Some(7)],
+            renumbered: [Some((8, 6)), Some((7, 7)), None],
         },
     );
     Ok(())
@@ -78,10 +94,9 @@ fn an_old_session_ends_and_a_new_one_goes_on(rt: HostRuntime) -> Result<(), Fail
 fn refusals(alloc: Global) -> Result<(Option<RenewRefusal>, Option<ListFault>), Fail> {
     let catalog = ShapedCatalog::built_in(alloc)?;
     let mut session = opened(alloc, &catalog)?;
-    let mut noted = Noted::at_first();
-    take_all(alloc, &mut session, &mut noted, &["{\"do\":\"terminate\"}"])?;
-    let list = renewal(alloc, &session, noted).err();
-    Ok((renew(alloc, &mut session, noted).err(), list))
+    take_all(alloc, &mut session, &["{\"do\":\"terminate\"}"])?;
+    let list = renewal(alloc, &session).err();
+    Ok((renew(alloc, &mut session).err(), list))
 }
 
 #[test]

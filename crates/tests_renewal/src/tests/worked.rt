@@ -1,14 +1,12 @@
 //! What the tests share: a session that takes lines, and a list of commands in few words.
 
-ghost use Rattle.std.specs.Prelude.{◌≡◌, [], IfOk};
-ghost use Rattle.pcef_renewal.specs.Noted.{noted_of};
+ghost use Rattle.std.specs.Prelude.{◌≡◌, IfOk};
 
 use pcef_built_in::ShapedCatalog;
 use pcef_catalog::Offers;
 use pcef_line::{Line, read_line};
 use pcef_model::{Command, Level, Step};
 use pcef_profile::read_profile;
-use pcef_renewal::Noted;
 use pcef_session::SessionState;
 use pcef_world::WorldState;
 use std::alloc::Global;
@@ -20,8 +18,7 @@ const PROFILE: &str =
 
 /// A session and its workers on the built-in catalog, before the first step.
 pub(crate) fn opened_world(alloc: Global, catalog: &ShapedCatalog) -> Result<WorldState, Fail>
-    ensures journal { IfOk result (λ w. w.session.journal ≡ []) }
-    ensures catalog { IfOk result (λ w. w.session.setting.catalog ≡ catalog.now) }
+    ensures { IfOk result (λ w. w.session.setting.catalog ≡ catalog.now) }
 {
     let profile = read_profile(alloc, PROFILE)?;
     let listing = catalog.listing().share()?;
@@ -30,9 +27,7 @@ pub(crate) fn opened_world(alloc: Global, catalog: &ShapedCatalog) -> Result<Wor
 }
 
 /// A session on the built-in catalog, before its first command.
-pub(crate) fn opened(alloc: Global, catalog: &ShapedCatalog) -> Result<SessionState, Fail>
-    ensures { IfOk result (λ s. s.journal ≡ []) }
-{
+pub(crate) fn opened(alloc: Global, catalog: &ShapedCatalog) -> Result<SessionState, Fail> {
     let profile = read_profile(alloc, PROFILE)?;
     let listing = catalog.listing().share()?;
     let session = SessionState::open(alloc, profile, listing)?;
@@ -82,19 +77,16 @@ fn make(
     alloc: Global,
     world: &mut WorldState,
     catalog: &ShapedCatalog,
-    noted: &mut Noted,
     line: &str,
 ) -> Result<(), Fail>
-    requires catalog { world.old.session.setting.catalog ≡ catalog.now }
-    requires noted { noted.old ≡ noted_of world.old.session.journal }
-    ensures noted { noted.new ≡ noted_of world.new.session.journal }
-    ensures setting { world.new.session.setting ≡ world.old.session.setting }
+    requires { world.old.session.setting.catalog ≡ catalog.now }
+    ensures { world.new.session.setting ≡ world.old.session.setting }
 {
     let step = match step_of(alloc, line) {
         Ok(step) => step,
         Err(fail) => return Err(fail),
     };
-    match noted.step(world, catalog, step) {
+    match world.step(catalog, step) {
         Ok(_) => Ok(()),
         Err(_) => Err(Fail::new("no memory")),
     }
@@ -105,34 +97,23 @@ pub(crate) fn make_all(
     alloc: Global,
     world: &mut WorldState,
     catalog: &ShapedCatalog,
-    noted: &mut Noted,
     lines: &[&str],
 ) -> Result<(), Fail>
-    requires catalog { world.old.session.setting.catalog ≡ catalog.now }
-    requires noted { noted.old ≡ noted_of world.old.session.journal }
-    ensures { noted.new ≡ noted_of world.new.session.journal }
+    requires { world.old.session.setting.catalog ≡ catalog.now }
 {
     for line in lines {
-        make(alloc, world, catalog, noted, *line)?;
+        make(alloc, world, catalog, *line)?;
     }
     Ok(())
 }
 
 /// Does what a line says.
-fn take(
-    alloc: Global,
-    session: &mut SessionState,
-    noted: &mut Noted,
-    line: &str,
-) -> Result<(), Fail>
-    requires { noted.old ≡ noted_of session.old.journal }
-    ensures { noted.new ≡ noted_of session.new.journal }
-{
+fn take(alloc: Global, session: &mut SessionState, line: &str) -> Result<(), Fail> {
     let command = match command_of(alloc, line) {
         Ok(command) => command,
         Err(fail) => return Err(fail),
     };
-    match noted.command(session, command) {
+    match session.command(command) {
         Ok(_) => Ok(()),
         Err(_) => Err(Fail::new("refused")),
     }
@@ -142,14 +123,10 @@ fn take(
 pub(crate) fn take_all(
     alloc: Global,
     session: &mut SessionState,
-    noted: &mut Noted,
     lines: &[&str],
-) -> Result<(), Fail>
-    requires { noted.old ≡ noted_of session.old.journal }
-    ensures { noted.new ≡ noted_of session.new.journal }
-{
+) -> Result<(), Fail> {
     for line in lines {
-        take(alloc, session, noted, *line)?;
+        take(alloc, session, *line)?;
     }
     Ok(())
 }

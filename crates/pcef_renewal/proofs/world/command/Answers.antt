@@ -1,6 +1,6 @@
 use Rattle.std.proofs.Common.{sym, subst}
-use Rattle.pcef_renewal.specs.private.Noting.{IsAnswered}
-use Rattle.pcef_renewal.proofs.Stepping.{answered}
+use Rattle.pcef_renewal.specs.private.Answering.{IsAnswered}
+use Rattle.pcef_renewal.proofs.Answering.{answered}
 use Rattle.pcef_renewal.proofs.world.command.Goals as goal
 
 pub returns-in-Ok-clause-answer : goal.returns-in-Ok-clause-answer
