@@ -18,6 +18,7 @@ PCEF_MANY = built("pcef_many")
 PCEF_CAPTURE = built("pcef_capture")
 PCEF_CHECK = built("pcef_check")
 PCEF_REPORT = built("pcef_report")
+PCEF_GX_FILTER = built("pcef_gx_filter")
 
 
 class Ended(NamedTuple):

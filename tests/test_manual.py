@@ -3,7 +3,7 @@ import os
 import re
 import subprocess
 
-from programs import PCEF, PCEF_CAPTURE, PCEF_CHECK, PCEF_MANY, PCEF_REPORT, TOP, ProgramTest
+from programs import PCEF, PCEF_CAPTURE, PCEF_CHECK, PCEF_GX_FILTER, PCEF_MANY, PCEF_REPORT, TOP, ProgramTest
 
 MANUAL = os.path.join(TOP, "packaging", "manual")
 
@@ -11,6 +11,7 @@ MANUAL = os.path.join(TOP, "packaging", "manual")
 PROGRAMS = {
     "pcef_capture": PCEF_CAPTURE,
     "pcef_check": PCEF_CHECK,
+    "pcef_gx_filter": PCEF_GX_FILTER,
     "pcef_many": PCEF_MANY,
     "pcef_report": PCEF_REPORT,
 }

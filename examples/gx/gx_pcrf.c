@@ -232,6 +232,16 @@ static int read_rules(const char *path)
     return 0;
 }
 
+/* RFC 8506 and the base protocol want AVPs in messages that TS 29.212 sends without them: their rules go. */
+static int want_no_more(const char *command_name, const char *avp_name)
+{
+    struct dict_object *command, *rule;
+    CHECK_FCT(fd_dict_search(DICTIONARY, DICT_COMMAND, CMD_BY_NAME, command_name, &command, ENOENT));
+    struct dict_rule_request wanted = {command, avp_named(avp_name)};
+    CHECK_FCT(fd_dict_search(DICTIONARY, DICT_RULE, RULE_BY_AVP_AND_PARENT, &wanted, &rule, ENOENT));
+    return fd_dict_delete(rule);
+}
+
 /* dict_dcca_3gpp has the AVPs of Gx, and not its application; its commands are those of the base and of credit
  * control. */
 static int start(char *rules)
@@ -248,6 +258,8 @@ static int start(char *rules)
     CHECK_FCT(fd_dict_search(DICTIONARY, DICT_COMMAND, CMD_BY_NAME, "Credit-Control-Request", &credit_control_request,
                              ENOENT));
     CHECK_FCT(fd_dict_search(DICTIONARY, DICT_COMMAND, CMD_BY_NAME, "Re-Auth-Request", &re_auth_request, ENOENT));
+    CHECK_FCT(want_no_more("Credit-Control-Request", "Service-Context-Id"));
+    CHECK_FCT(want_no_more("Re-Auth-Answer", "Result-Code"));
     memset(&when, 0, sizeof when);
     when.app = application;
     when.command = credit_control_request;

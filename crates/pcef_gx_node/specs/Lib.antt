@@ -1,0 +1,4 @@
+pub mod Accesses
+pub mod Deeds
+pub mod Farewells
+pub mod Numberings
