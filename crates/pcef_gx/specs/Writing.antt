@@ -13,10 +13,13 @@ use Rattle.pcef_gx.specs.declared.writing.RuleReport.{RuleReport}
 use Rattle.pcef_gx.specs.declared.writing.RuleStatus.{RuleStatus}
 use Rattle.pcef_gx.specs.declared.writing.RuleStatus.TheVariants.{Active, Inactive}
 
--- Default-EPS-Bearer-QoS, Flow-Information, those of usage monitoring and Flow-Direction have no M bit (clause 5.3).
+-- RAT-Type, Default-EPS-Bearer-QoS, Flow-Information, those of usage monitoring, and Flow-Direction have no M bit (clause
+-- 5.3).
+abbrev pub optional_avps : List ℕ
+optional_avps = 1032 ∷ 1049 ∷ 1058 ∷ 1066 ∷ 1067 ∷ 1068 ∷ 1069 ∷ 1070 ∷ 1080 ∷ []
+
 abbrev pub is_mandatory : Code → Bool
-is_mandatory code =
-    not ((code.vendor == 10415) && is_one_of (1049 ∷ 1058 ∷ 1066 ∷ 1067 ∷ 1068 ∷ 1069 ∷ 1070 ∷ 1080 ∷ []) code.number)
+is_mandatory code = not ((code.vendor == 10415) && is_one_of optional_avps code.number)
 
 unfoldable pub avp_of : Code → List ℕ → Shown
 avp_of code octets = record {

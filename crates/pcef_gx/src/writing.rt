@@ -19,7 +19,7 @@ use std::alloc::{AllocError, Global};
 fn is_mandatory(code: Code) -> bool
     ensures { result ≡ is_mandatory code }
 {
-    code.vendor != THREE_GPP || !matches!(code.number, 1049 | 1058 | 1066..=1070 | 1080)
+    code.vendor != THREE_GPP || !matches!(code.number, 1032 | 1049 | 1058 | 1066..=1070 | 1080)
 }
 
 /// The AVP of this code and data.
