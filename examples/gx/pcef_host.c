@@ -173,6 +173,8 @@ static void hear(struct event *event) {
 static void *run(void *data) {
     struct event *event;
     (void)data;
+    /* Extensions start before the stack can send. */
+    if (fd_core_waitstartcomplete()) return NULL;
     send_due();
     while (!fd_fifo_get(events, &event)) {
         int count;
