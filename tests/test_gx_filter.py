@@ -214,7 +214,7 @@ class Lines(GxFilterTest):
         filter_ = self.with_lines().opened(gx(1006, 2))
         with self.feeding() as feed:
             feed.write(lines(line(do="notice", event="RAT_CHANGE", value="%00%00%03%EC")))
-            filter_.hears(ccr(9, 2, 1, gx(1006, 2), gx(1032, 1004)))
+            filter_.hears(ccr(9, 2, 1, gx(1006, 2), gx(1032, 1004, mandatory=False)))
 
     def test_the_fifo_may_be_opened_again(self):
         filter_ = self.with_lines().opened(INSTALL, MONITOR)
