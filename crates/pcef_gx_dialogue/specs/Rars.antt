@@ -3,14 +3,14 @@ use Rattle.std.specs.Prelude.{ℕ, ◌≡◌, ◌≤◌, ◌+◌, ◌||◌, Bool
 use Rattle.std.specs.List.{list_any}
 use Rattle.pcef_diameter.specs.Avps.{Shown}
 use Rattle.pcef_diameter.specs.declared.header.MessageHeader.{MessageHeader}
-use Rattle.pcef_gx.specs.Codes.{event_trigger, monitoring_key, usage_monitoring_report}
+use Rattle.pcef_gx.specs.Codes.{event_trigger, monitoring_key, session_id, usage_monitoring_report}
 use Rattle.pcef_gx.specs.Messages.{Asked}
 use Rattle.pcef_gx.specs.Readings.{blank_of}
 use Rattle.pcef_gx.specs.declared.fault.Problem.TheVariants.{UnableToComply}
 use Rattle.pcef_gx.specs.declared.order.Order.{Order}
 use Rattle.pcef_gx.specs.declared.order.Order.TheVariants as order
 use Rattle.pcef_gx.specs.declared.writing.RuleReport.{RuleReport}
-use Rattle.pcef_gx_messages.specs.Identities.{Speaker}
+use Rattle.pcef_gx_messages.specs.Identities.{Speaker, speaking_of}
 use Rattle.pcef_gx_messages.specs.Proxies.{GoesBack}
 use Rattle.pcef_gx_messages.specs.Sent.{Answered, Told, answered, at_fault, rules_failed, success, unknown_session}
 use Rattle.pcef_gx_orders.specs.Carrying.{CarriesOut}
@@ -18,7 +18,7 @@ use Rattle.pcef_gx_orders.specs.Naming.{name_given}
 use Rattle.pcef_model.specs.Refusals.{was_closed, was_terminated}
 use Rattle.pcef_rule.specs.declared.quantity.Qos.{Qos}
 use Rattle.pcef_world.specs.Worlds.{World}
-use Rattle.pcef_gx_dialogue.specs.Requests.{RequestDue, most_message}
+use Rattle.pcef_gx_dialogue.specs.Requests.{RequestDue, data_in, most_message}
 use Rattle.pcef_gx_dialogue.specs.declared.answering.LeftToHost.{LeftToHost}
 
 -- ---- what the answer tells of orders
@@ -53,16 +53,29 @@ GoesBackBy false message back = GoesBack (drop 20 message) back
 abbrev pub GoesBackOf : List ℕ → List ℕ → Type 0
 GoesBackOf message back = GoesBackBy (nat_lt most_message (length message)) message back
 
--- what an answer needs of its request: who answers, its header, and what goes back of it
+-- what an answer needs of its request: who answers, its header, its Session-Id where that can be read, and what goes back
+-- of it
 pub record Asker : Type 0 where
   pub speaker : Speaker
   pub header : MessageHeader
+  pub session : Option (List ℕ)
   pub back : List ℕ
 
+abbrev pub asker_of : Speaker → MessageHeader → List ℕ → List ℕ → Asker
+asker_of s h message back = record { speaker = s; header = h; session = data_in session_id message; back = back }
+
 -- ---- the answer
+-- A refusal has the Session-Id of its request, whose session may be another one (RFC 6733, clause 6.2).
+abbrev pub speaker_for : Option (List ℕ) → Speaker → Speaker
+speaker_for None s = s
+speaker_for (Some session) s = speaking_of session s
+
+abbrev pub refusal_to : Asker → Told → Answered
+refusal_to a told = answered (speaker_for a.session a.speaker) a.header told [] a.back
+
 -- a request is refused as a whole: nothing changes
 abbrev pub Refuses : Asker → Told → World → Answered → World → Type 0
-Refuses a told before answer after = (answer ≡ answered a.speaker a.header told [] a.back) × (after ≡ before)
+Refuses a told before answer after = (answer ≡ refusal_to a told) × (after ≡ before)
 
 -- its orders are done, and the answer has the reports of the rules that couldn't be had
 abbrev pub DoesOrders : Asker → List Order → World → Answered → World → Type 0
@@ -118,7 +131,7 @@ left_due ended (Ok asked) = left_of ended asked
 unfoldable pub AnswersRar : Speaker → MessageHeader → List ℕ → World → Answered → Left → World → Type 0
 AnswersRar s h message before answer left after =
     (due : Result Asked Told) × (back : List ℕ) × RequestDue s h message due × GoesBackOf message back
-    × AnswersRequest (record { speaker = s; header = h; back = back }) due before answer after
+    × AnswersRequest (asker_of s h message back) due before answer after
     × (left ≡ left_due (is_ended before) due)
 
 -- Where there is no session, a request is refused whatever it asks for (own choice).
@@ -129,7 +142,7 @@ told_unknown (Ok asked) = unknown_session
 abbrev pub RefusesUnknown : Speaker → MessageHeader → List ℕ → Answered → Type 0
 RefusesUnknown s h message answer =
     (due : Result Asked Told) × (back : List ℕ) × RequestDue s h message due × GoesBackOf message back
-    × (answer ≡ answered s h (told_unknown due) [] back)
+    × (answer ≡ refusal_to (asker_of s h message back) (told_unknown due))
 
 -- ---- memory
 abbrev pub order_room : Order → ℕ

@@ -1,27 +1,20 @@
 -- A RAR that comes again (RFC 6733, clause 5.5.4): it is known by its End-to-End Identifier and its Origin-Host.
-use Rattle.std.specs.Prelude.{ℕ, ◌≡◌, ◌==◌, ◌&&◌, Bool, true, false, List, Option, Some, None, option_map, Result, Ok, Err}
+use Rattle.std.specs.Prelude.{ℕ, ◌≡◌, ◌==◌, ◌&&◌, Bool, true, false, List, Option, Some, None, option_map}
 use Rattle.std.specs.Str.{bytes_eq}
-use Rattle.pcef_diameter.specs.Avps.{Shown}
 use Rattle.pcef_diameter.specs.declared.header.MessageHeader.{MessageHeader}
 use Rattle.pcef_gx.specs.Codes.{origin_host}
-use Rattle.pcef_gx.specs.Readings.{only_of}
 use Rattle.pcef_gx_messages.specs.Identities.{Speaker}
-use Rattle.pcef_gx_messages.specs.Sent.{Answered, Told, answered_again}
-use Rattle.pcef_lists.specs.Readings.{◌>>=◌, under}
+use Rattle.pcef_gx_messages.specs.Sent.{Answered, answered_again}
 use Rattle.pcef_world.specs.Worlds.{World}
 use Rattle.pcef_gx_dialogue.specs.Rars.{AnswersRar, Left, RefusesUnknown, left_by, nothing_left}
-use Rattle.pcef_gx_dialogue.specs.Requests.{avps_in, told_fault}
+use Rattle.pcef_gx_dialogue.specs.Requests.{data_in}
 use Rattle.pcef_gx_dialogue.specs.declared.responder.RarDone.{RarDone}
 use Rattle.pcef_gx_dialogue.specs.declared.responder.RarDone.TheVariants as done
 
 -- ---- where a message comes from
-abbrev pub data_of : Result (Option Shown) Told → Option (List ℕ)
-data_of (Ok (Some a)) = Some a.octets
-data_of _ = None
-
 -- its one Origin-Host; none where its AVPs are at fault before
-unfoldable pub origin_of : List ℕ → Option (List ℕ)
-origin_of message = data_of (avps_in message >>= λ avps. under told_fault (only_of origin_host avps))
+abbrev pub origin_of : List ℕ → Option (List ℕ)
+origin_of message = data_in origin_host message
 
 -- ---- the last RAR
 -- who sent it, and its answer

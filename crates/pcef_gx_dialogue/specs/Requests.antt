@@ -9,7 +9,8 @@ use Rattle.pcef_diameter.specs.declared.fault.MessageFault.TheVariants as messag
 use Rattle.pcef_diameter.specs.declared.header.MessageHeader.{MessageHeader}
 use Rattle.pcef_gx.specs.Codes.{auth_application_id, session_id}
 use Rattle.pcef_gx.specs.Messages.{Asked, message_of, of_rar}
-use Rattle.pcef_gx.specs.Readings.{Fault, group_of, required_of}
+use Rattle.pcef_gx.specs.Readings.{Fault, group_of, only_of, required_of}
+use Rattle.pcef_gx.specs.declared.code.Code.{Code}
 use Rattle.pcef_gx.specs.declared.fault.Stop.{Stop}
 use Rattle.pcef_gx.specs.declared.fault.Stop.TheVariants as stop
 use Rattle.pcef_gx_messages.specs.Identities.{Speaker}
@@ -82,6 +83,14 @@ told_fault fault = at_fault fault.0 fault.1
 -- the AVPs behind the header
 unfoldable pub avps_in : List ℕ → Result (List Shown) Told
 avps_in message = under told_fault (group_of (drop 20 message))
+
+-- the data of its one AVP of a code; none where its AVPs can't be read
+abbrev pub data_of : Result (Option Shown) Told → Option (List ℕ)
+data_of (Ok (Some a)) = Some a.octets
+data_of _ = None
+
+unfoldable pub data_in : Code → List ℕ → Option (List ℕ)
+data_in code message = data_of (avps_in message >>= λ avps. under told_fault (only_of code avps))
 
 -- the session is this one (RFC 6733, clause 8.8)
 abbrev pub of_session : Speaker → Shown → Bool

@@ -1,18 +1,18 @@
 //! The answer to a RAR.
 
-ghost use Rattle.std.specs.Prelude.{◌≡◌, ◌<◌, ◌≤◌, ◌+◌, ◌^◌, [], IfErr, IfOk, length, option_map, true};
+ghost use Rattle.std.specs.Prelude.{◌≡◌, ◌<◌, ◌≤◌, ◌+◌, ◌^◌, IfErr, IfOk, length, option_map, true};
 ghost use Rattle.std.specs.List.{list_any};
 ghost use Rattle.pcef_diameter.specs.Avps.{shown};
 ghost use Rattle.pcef_gx.specs.Messages as messages;
-ghost use Rattle.pcef_gx_messages.specs.Sent.{answered, most_room, told_of};
+ghost use Rattle.pcef_gx_messages.specs.Sent.{most_room, told_of};
 ghost use Rattle.pcef_gx_dialogue.specs.private.Askers.{asker_of};
-ghost use Rattle.pcef_gx_dialogue.specs.Rars.{AnswersRar, DoesOrders, GoesBackOf, HaveRoom, Obeys, RefusesUnknown, asked_beside, avp_refused, is_ended, is_triggers, left_by, left_of, nothing_left, told_of_orders};
+ghost use Rattle.pcef_gx_dialogue.specs.Rars.{AnswersRar, DoesOrders, GoesBackOf, HaveRoom, Obeys, RefusesUnknown, asked_beside, avp_refused, is_ended, is_triggers, left_by, left_of, nothing_left, refusal_to, speaker_for, told_of_orders};
 
-use crate::asking::{MAX_MESSAGE, read_request};
+use crate::asking::{MAX_MESSAGE, data_in, read_request};
 use crate::halt::Halt;
 use pcef_catalog::Detects;
 use pcef_diameter::{Avp, HEADER_LEN, MessageHeader};
-use pcef_gx::code::{EVENT_TRIGGER, MONITORING_KEY, USAGE_MONITORING_REPORT};
+use pcef_gx::code::{EVENT_TRIGGER, MONITORING_KEY, SESSION_ID, USAGE_MONITORING_REPORT};
 use pcef_gx::{GxFault, Order, Orders, Problem, THREE_GPP, example};
 use pcef_gx_messages::{Answer, AnswerRoom, Identity, Outcome, proxies_in, refuse};
 use pcef_gx_orders::{CarriedOut, NamedOrder, carry_out, with_names};
@@ -137,7 +137,30 @@ pub fn apart(asked: Orders<'_>) -> (Vec<Order<'_>>, LeftToHost)
 struct Asker<'a> {
     identity: &'a Identity<'a>,
     header: &'a MessageHeader,
+    message: &'a [u8],
     back: &'a [u8],
+}
+
+/// Who refuses a request that has this Session-Id, where it has one that can be read.
+fn speaker_for<'a>(identity: &Identity<'a>, session: Option<&'a [u8]>) -> Identity<'a>
+    ensures { result ≡ speaker_for (option_map (λ octets. octets.now) session.entry) identity.now }
+{
+    match session {
+        Some(session) => identity.speaking_of(session),
+        None => identity.speaking_of(identity.session_id()),
+    }
+}
+
+/// The answer that refuses a request.
+fn refusal_to(alloc: Global, asker: &Asker, outcome: &Outcome) -> Result<Answer, AllocError>
+    requires whole { 20 ≤ length asker.now.message.now }
+    requires command { asker.now.header.now.command < 2 ^ 24 }
+    requires back { length asker.now.back.now ≤ 65536 }
+    ensures { IfOk result (λ answer. answer ≡ refusal_to (asker_of asker.now) (told_of outcome.now)) }
+{
+    let session = data_in(alloc, SESSION_ID, asker.message)?;
+    let identity = speaker_for(asker.identity, session);
+    refuse(alloc, &identity, asker.header, outcome, asker.back)
 }
 
 /// What goes back of a request.
@@ -183,14 +206,14 @@ fn do_orders<C: Detects>(
 
 /// An answer that leaves nothing to the host.
 fn refused(alloc: Global, asker: &Asker, outcome: &Outcome) -> Result<AnsweredRar, AllocError>
+    requires whole { 20 ≤ length asker.now.message.now }
     requires command { asker.now.header.now.command < 2 ^ 24 }
     requires back { length asker.now.back.now ≤ 65536 }
-    ensures answer { IfOk result (λ a. a.answer
-        ≡ answered asker.now.identity.now asker.now.header.now (told_of outcome.now) [] asker.now.back.now) }
+    ensures answer { IfOk result (λ a. a.answer ≡ refusal_to (asker_of asker.now) (told_of outcome.now)) }
     ensures left { IfOk result (λ a. left_by a.left ≡ nothing_left) }
 {
     Ok(AnsweredRar {
-        answer: refuse(alloc, asker.identity, asker.header, outcome, asker.back)?,
+        answer: refusal_to(alloc, asker, outcome)?,
         left: LeftToHost {
             others: None,
             default_qos: None,
@@ -208,6 +231,7 @@ fn obey<C: Detects>(
     asked: Orders,
 ) -> Result<AnsweredRar, AllocError>
     requires offered { C.offers catalog.now ≡ world.old.session.setting.catalog }
+    requires whole { 20 ≤ length asker.now.message.now }
     requires command { asker.now.header.now.command < 2 ^ 24 }
     requires back { length asker.now.back.now ≤ 65536 }
     ensures answer { IfOk result (λ a.
@@ -235,7 +259,7 @@ fn obey<C: Detects>(
 /// of [`read_request`], or where the session was closed or terminated, and then nothing changes. Else its orders are
 /// done, as [`pcef_gx_orders::carry_out`] does them, and the answer has a Charging-Rule-Report for each rule that
 /// couldn't be had; an order that names no rule and is refused is DIAMETER_UNABLE_TO_COMPLY, with its AVP. The answer
-/// has the identifiers of the request, and its Proxy-Infos. Takes memory before anything is done: an `Err` is its want,
+/// has the identifiers of the request, its Session-Id, and its Proxy-Infos. Takes memory before anything is done: an `Err` is its want,
 /// and nothing has changed. Where memory is wanting for a rule, the rule couldn't be had.
 #[tactic(auto, unfolding(crate::specs::Rars::AnswersRar))]
 pub fn answer_rar<C: Detects>(
@@ -261,6 +285,7 @@ pub fn answer_rar<C: Detects>(
     let asker = Asker {
         identity,
         header,
+        message,
         back: &back,
     };
     match read_request(alloc, identity, header, message) {
@@ -284,9 +309,15 @@ pub(crate) fn answer_unknown(
     ensures { IfOk result (λ a. RefusesUnknown identity.now header.now message.now a) }
 {
     let back = back_of(alloc, message)?;
+    let asker = Asker {
+        identity,
+        header,
+        message,
+        back: &back,
+    };
     match read_request(alloc, identity, header, message) {
-        Ok(_) => refuse(alloc, identity, header, &Outcome::UnknownSession, &back),
-        Err(Halt::Refused(outcome)) => refuse(alloc, identity, header, &outcome, &back),
+        Ok(_) => refusal_to(alloc, &asker, &Outcome::UnknownSession),
+        Err(Halt::Refused(outcome)) => refusal_to(alloc, &asker, &outcome),
         Err(Halt::NoMemory) => Err(AllocError),
     }
 }

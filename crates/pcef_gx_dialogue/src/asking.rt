@@ -1,19 +1,19 @@
 //! What a request of the PCRF asks for.
 
-ghost use Rattle.std.specs.Prelude.{◌≡◌, ◌≤◌, length, map, option_map, Result, true};
+ghost use Rattle.std.specs.Prelude.{◌≡◌, ◌≤◌, IfOk, length, map, option_map, Result, true};
 ghost use Rattle.pcef_diameter.specs.Avps.{shown};
 ghost use Rattle.pcef_gx.specs.Messages.{Asked, RarOf, asked};
 ghost use Rattle.pcef_gx.specs.Readings.{Fault, required_of};
 ghost use Rattle.pcef_lists.specs.Readings.{under};
 ghost use Rattle.pcef_gx_messages.specs.Sent.{Told, told_of};
-ghost use Rattle.pcef_gx_dialogue.specs.Requests.{RequestDue, Tells, addressed_avps, addressed_to, avps_in, command_told, header_told, of_gx, refused_first, told_fault};
+ghost use Rattle.pcef_gx_dialogue.specs.Requests.{RequestDue, Tells, addressed_avps, addressed_to, avps_in, command_told, data_in, header_told, of_gx, refused_first, told_fault};
 
 use crate::halt::{Halt, halted_by};
 use pcef_diameter::{Avp, HEADER_LEN, MessageFault, MessageHeader, read_unsigned32};
 use pcef_gx::code::{AUTH_APPLICATION_ID, Code, SESSION_ID};
-use pcef_gx::{Orders, group, read_rar, required};
+use pcef_gx::{Orders, Stop, group, only, read_rar, required};
 use pcef_gx_messages::{GX, Identity, Outcome};
-use std::alloc::Global;
+use std::alloc::{AllocError, Global};
 
 /// The Command Code of a Re-Auth-Request (RFC 6733, clause 8.3.1).
 pub const RE_AUTH: u32 = 258;
@@ -76,6 +76,28 @@ fn required_in<'m>(avps: &[Avp<'m>], code: Code) -> Result<Avp<'m>, Halt<'m>>
     match required(avps, code) {
         Ok(avp) => Ok(avp),
         Err(stop) => Err(halted_by(stop)),
+    }
+}
+
+/// The data of the one AVP of this code, where the AVPs of a message can be read. Takes memory; an `Err` is want of it.
+#[tactic(auto, unfolding(crate::specs::Requests::data_in, crate::specs::Requests::avps_in))]
+pub(crate) fn data_in<'m>(
+    alloc: Global,
+    code: Code,
+    message: &'m [u8],
+) -> Result<Option<&'m [u8]>, AllocError>
+    requires { 20 ≤ length message.now }
+    ensures { IfOk result (λ found. option_map (λ octets. octets.now) found ≡ data_in code message.now) }
+{
+    let avps = match group(alloc, message.split_at(HEADER_LEN).1) {
+        Ok(avps) => avps,
+        Err(Stop::Fault(_)) => return Ok(None),
+        Err(Stop::NoMemory) => return Err(AllocError),
+    };
+    match only(&avps, code) {
+        Ok(Some(avp)) => Ok(Some(avp.octets)),
+        Ok(None) | Err(Stop::Fault(_)) => Ok(None),
+        Err(Stop::NoMemory) => Err(AllocError),
     }
 }
 

@@ -5,11 +5,11 @@ ghost use Rattle.pcef_gx_dialogue.specs.Repeats.{AnswersOnce, AnswersUnknown, is
 ghost use Rattle.pcef_gx_dialogue.specs.private.Lasts.{last_of};
 
 use crate::answering::{LeftToHost, answer_rar, answer_unknown};
+use crate::asking::data_in;
 use crate::party::Party;
 use pcef_catalog::Detects;
-use pcef_diameter::{HEADER_LEN, MessageHeader};
+use pcef_diameter::MessageHeader;
 use pcef_gx::code::ORIGIN_HOST;
-use pcef_gx::{Stop, group, only};
 use pcef_gx_messages::Answer;
 use pcef_world::WorldState;
 use std::alloc::{AllocError, Global};
@@ -48,21 +48,14 @@ impl Model for Responder {
     ghost view = { answering_of };
 }
 
-/// The Origin-Host of a message, where its AVPs are read up to it.
-#[tactic(auto, unfolding(crate::specs::Repeats::origin_of, crate::specs::Requests::avps_in))]
+/// The Origin-Host of a message, where its AVPs can be read.
 fn origin_of(alloc: Global, message: &[u8]) -> Result<Option<Vec<u8>>, AllocError>
     requires { 20 ≤ length message.now }
     ensures { IfOk result (λ origin. option_map (λ o. o.items) origin ≡ origin_of message.now) }
 {
-    let avps = match group(alloc, message.split_at(HEADER_LEN).1) {
-        Ok(avps) => avps,
-        Err(Stop::Fault(_)) => return Ok(None),
-        Err(Stop::NoMemory) => return Err(AllocError),
-    };
-    match only(&avps, ORIGIN_HOST) {
-        Ok(Some(avp)) => Ok(Some(Vec::from_slice(alloc, avp.octets)?)),
-        Ok(None) | Err(Stop::Fault(_)) => Ok(None),
-        Err(Stop::NoMemory) => Err(AllocError),
+    match data_in(alloc, ORIGIN_HOST, message)? {
+        Some(host) => Ok(Some(Vec::from_slice(alloc, host)?)),
+        None => Ok(None),
     }
 }
 
@@ -184,6 +177,7 @@ impl Responder {
         self.remember(header, origin, done.answer);
         Ok(RarDone::Done(done.left))
     }
+
     /// Answers a RAR with this header where there is no session: it is refused by the first reason of
     /// [`crate::read_request`], or by DIAMETER_UNKNOWN_SESSION_ID. The answer stays for [`Responder::reply`], and one that
     /// comes again is answered again, as by [`Responder::rar`]. Takes memory; an `Err` is its want, and nothing has

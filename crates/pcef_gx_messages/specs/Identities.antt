@@ -1,5 +1,5 @@
 -- Who speaks, and of which session.
-use Rattle.std.specs.Prelude.{ℕ, ◌≤◌, List, length}
+use Rattle.std.specs.Prelude.{ℕ, ◌≤◌, nat_lt, List, length, if◌then◌else◌}
 
 -- Session-Id, Origin-Host, Origin-Realm (RFC 6733, clauses 8.8, 6.3 and 6.4), and the realm of the PCRF, Destination-Realm
 -- (clause 6.6)
@@ -17,3 +17,7 @@ abbrev pub IsShort : Speaker → Type 0
 IsShort s =
     (length s.session_id ≤ most_octets) × (length s.origin_host ≤ most_octets) × (length s.origin_realm ≤ most_octets)
     × (length s.destination_realm ≤ most_octets)
+
+-- the same speaker, of the session with this Session-Id; a Session-Id of more octets is nobody's
+abbrev pub speaking_of : List ℕ → Speaker → Speaker
+speaking_of session s = if nat_lt most_octets (length session) then s else record s { session_id = session }

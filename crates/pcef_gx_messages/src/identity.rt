@@ -1,7 +1,7 @@
 //! Who speaks, and of which session.
 
 ghost use Rattle.std.specs.Prelude.{◌≡◌, ◌≤◌, ◌↔◌, IfSome, IsSome, length};
-ghost use Rattle.pcef_gx_messages.specs.Identities.{IsShort, Speaker};
+ghost use Rattle.pcef_gx_messages.specs.Identities.{IsShort, Speaker, speaking_of};
 
 use std::marker::Model;
 
@@ -72,6 +72,20 @@ impl<'a> Identity<'a> {
             origin_realm,
             destination_realm,
         })
+    }
+
+    /// The same speaker, of another session: the one of this Session-Id, where it has at most 1,024 octets, and else of
+    /// the same one. Takes no memory.
+    pub fn speaking_of(&self, session_id: &'a [u8]) -> Identity<'a>
+        ensures { result ≡ speaking_of session_id.now self.now }
+    {
+        let is_long = session_id.len() > MAX_OCTETS;
+        Identity {
+            session_id: if is_long { self.session_id } else { session_id },
+            origin_host: self.origin_host,
+            origin_realm: self.origin_realm,
+            destination_realm: self.destination_realm,
+        }
     }
 
     /// The Session-Id. Takes no memory.

@@ -57,11 +57,13 @@ fn number_at(answer: &[u8], at: usize) -> u32 {
     read_unsigned32(octets).unwrap_or(0)
 }
 
-/// The Result-Code of an answer of this session, or its Experimental-Result-Code: they stand behind the Session-Id, the
-/// second one behind a Vendor-Id, whose code is 266.
+/// The Result-Code of an answer, or its Experimental-Result-Code: they stand behind the Session-Id, the second one behind a
+/// Vendor-Id, whose code is 266.
 fn code_in(answer: &[u8]) -> u32 {
-    match number_at(answer, 56) {
-        266 => number_at(answer, 76),
+    let session_id = (number_at(answer, 24) & 0xff_ffff) as usize;
+    let result = 20usize.saturating_add(session_id.saturating_add(3) / 4 * 4);
+    match number_at(answer, result.saturating_add(8)) {
+        266 => number_at(answer, result.saturating_add(28)),
         code => code,
     }
 }
