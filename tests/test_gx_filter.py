@@ -205,9 +205,21 @@ class Lines(GxFilterTest):
             feed.write(lines(ATTACH, take(DNS_ANSWER), FLUSH))
             feed.write(lines(take(DNS_ANSWER), FLUSH))
             filter_.hears(ccr(9, 2, 1, gx(1006, 33), usage(b"vid", 56)))
-            filter_.send(cca(9, 2, 1))
+            filter_.send(cca(9, 2, 1, MONITOR))
             feed.write(lines(take(DNS_ANSWER), line(do="end")))
         filter_.over(10, 2, usage(b"vid", 28))
+        filter_.ends(0)
+
+    def test_a_grant_that_is_used_up_and_no_other(self):
+        filter_ = self.with_lines().opened(INSTALL, MONITOR, gx(1006, 33))
+        with self.feeding() as feed:
+            feed.write(lines(ATTACH, take(DNS_ANSWER), take(DNS_ANSWER), FLUSH))
+            filter_.hears(ccr(9, 2, 1, gx(1006, 33), usage(b"vid", 56)))
+            filter_.send(cca(9, 2, 1))
+            filter_.hears(ccr(10, 2, 2, gx(1006, 33), usage(b"vid", 0)))
+            filter_.send(cca(10, 2, 2))
+            feed.write(lines(line(do="refresh", worker=0), take(DNS_ANSWER), line(do="end")))
+        filter_.over(11, 3)
         filter_.ends(0)
 
     def test_an_event_of_the_access(self):

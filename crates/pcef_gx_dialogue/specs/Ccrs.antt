@@ -65,6 +65,7 @@ abbrev pub is_answer : Option Out → ℕ → ℕ → Bool
 is_answer None kind number = false
 is_answer (Some o) kind number = (kind_number o.kind == kind) && (o.number == number)
 
+-- how many reports are told once the one that is out is answered with success
 abbrev pub past_of : Ccrs → Option Out → ℕ
 past_of c None = c.told
 past_of c (Some o) = o.past

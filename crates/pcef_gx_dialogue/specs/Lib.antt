@@ -5,4 +5,5 @@ pub mod Grants
 pub mod Rars
 pub mod Repeats
 pub mod Requests
+pub mod Stopping
 pub mod private

@@ -1,4 +1,5 @@
 -- What only private clauses speak of: a reader of the public ones may pass over it.
 pub mod Askers
 pub mod Lasts
+pub mod Left
 pub mod Outs

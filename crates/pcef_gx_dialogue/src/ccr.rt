@@ -2,7 +2,7 @@
 
 ghost use Rattle.std.specs.Prelude.{◌≡◌, ◌≤◌, ◌+◌, IfErr, IfOk, OnErr, OnOk, None, false, length, option_map, true};
 ghost use Rattle.pcef_gx_dialogue.specs.Ccas.{has_identifiers};
-ghost use Rattle.pcef_gx_dialogue.specs.Ccrs.{RefusesSend, answered_so, at_first, given_up, is_answer, sent, sent_again, with_t_bit};
+ghost use Rattle.pcef_gx_dialogue.specs.Ccrs.{RefusesSend, answered_so, at_first, given_up, is_answer, past_of, sent, sent_again, with_t_bit};
 
 use pcef_diameter::MessageHeader;
 use pcef_gx_messages::{Identity, RequestKind, RequestMark, request};
@@ -71,6 +71,17 @@ impl Ccrs {
         ensures { result ≡ self.now.told }
     {
         self.told
+    }
+
+    /// How many reports of the session are told once the CCR that is out, if one is, is answered with success. Takes no
+    /// memory.
+    pub fn past(&self) -> u64
+        ensures { result ≡ past_of self.now self.now.out }
+    {
+        match &self.out {
+            Some(out) => out.past,
+            None => self.told,
+        }
     }
 
     /// The CCR that is out, in octets. Takes no memory.

@@ -6,7 +6,7 @@
 //!
 //! In the order of reading: `party`, `halt`, `asking`, `answering`, `responder`,
 //! `ccr`, `cca`,
-//! `granting`, `laws`.
+//! `granting`, `stopping`, `laws`.
 #![tactic(auto)]
 
 mod answering;
@@ -18,6 +18,7 @@ mod halt;
 mod laws;
 mod party;
 mod responder;
+mod stopping;
 
 pub use answering::{AnsweredRar, LeftToHost, answer_rar, apart};
 pub use asking::read_request;
@@ -28,3 +29,4 @@ pub use halt::Halt;
 pub use laws::ccrs_add_up;
 pub use party::Party;
 pub use responder::{RarDone, Responder};
+pub use stopping::with_stops;

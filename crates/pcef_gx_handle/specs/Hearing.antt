@@ -1,5 +1,5 @@
 -- What a message of the PCRF does to the dialogue and to its session (TS 29.212, clauses 4.5.1, 4.5.2 and 4.5.9).
-use Rattle.std.specs.Prelude.{ℕ, ◌≡◌, ◌⊎◌, ◌++◌, ◌==◌, Bool, true, false, List, [], ◌∷◌, drop, Option, Some, None, is_some, unwrap_or, Result, Ok, Err, if◌then◌else◌}
+use Rattle.std.specs.Prelude.{ℕ, ◌≡◌, ◌⊎◌, ◌++◌, ◌==◌, Bool, true, false, List, [], ◌∷◌, drop, max, Option, Some, None, is_some, unwrap_or, Result, Ok, Err, if◌then◌else◌}
 use Rattle.std.specs.List.{list_any}
 use Rattle.pcef_built_in.specs.BuiltIn.{built_in_offers}
 use Rattle.pcef_diameter.specs.Headers.{header_of}
@@ -9,10 +9,13 @@ use Rattle.pcef_gx.specs.Codes.{event_trigger}
 use Rattle.pcef_gx.specs.Messages.{Asked}
 use Rattle.pcef_gx.specs.Writing.{number_avp}
 use Rattle.pcef_gx_dialogue.specs.Ccas.{CcaDue, Dropped, Saying, at_fault, failed, granted, not_ours}
+use Rattle.pcef_gx.specs.declared.order.Order.{Order}
+use Rattle.pcef_gx_dialogue.specs.Ccrs.{past_of}
 use Rattle.pcef_gx_dialogue.specs.Grants.{DoesGrant}
 use Rattle.pcef_gx_dialogue.specs.declared.granting.Grant.{Grant}
 use Rattle.pcef_gx_dialogue.specs.Rars.{Left, asked_beside, left_by, others_beside}
 use Rattle.pcef_gx_dialogue.specs.Repeats.{Answering, AnswersOnce, AnswersUnknown, left_by_done}
+use Rattle.pcef_gx_dialogue.specs.Stopping.{with_stops}
 use Rattle.pcef_handle.specs.Answering.{StaysOpen}
 use Rattle.pcef_handle.specs.Opening.{number_after}
 use Rattle.pcef_handle.specs.declared.held.Handle.{Handle}
@@ -136,11 +139,16 @@ granted_by asked due d = record (settled true d) {
   watches_loss = watches (others_beside asked) d.watches_loss;
 }
 
+-- the orders of an answer, and those for the keys that it leaves without a grant; reports that are forgotten can't be told
+abbrev pub orders_due : List Order → Dialoguing → World → List Order
+orders_due orders d w =
+    with_stops w.session.setting w.session.journal (max (past_of d.ccrs d.ccrs.out) w.session.forgotten) orders
+
 -- the orders are done on the session that is open
 abbrev pub GrantsIn : Asked → Dialoguing → OpenSession → Result Heard HearRefusal → Dialoguing → Option OpenSession → Type 0
 GrantsIn asked d s (Ok (heard.Told grant left)) e (Some t) =
     (left_by left ≡ asked_beside asked) × StaysAside s t
-    × ((due : List ℕ) × DoesGrant asked.orders s.world (d.due ++ qos_told asked.default_qos d) grant t.world due
+    × ((due : List ℕ) × DoesGrant (orders_due asked.orders d s.world) s.world (d.due ++ qos_told asked.default_qos d) grant t.world due
     × (e ≡ granted_by asked due d))
 GrantsIn asked d s (Err refusal.NoMemory) e (Some t) = (e ≡ d) × (t.world ≡ s.world) × StaysAside s t
 GrantsIn asked d s other e t = ⊥

@@ -11,7 +11,7 @@ use crate::hearing::{HearRefusal, Heard};
 use crate::held::{Dialogue, Stage};
 use pcef_diameter::MessageHeader;
 use pcef_gx::Orders;
-use pcef_gx_dialogue::{CcaDrop, Says, apart, do_grant, read_answer};
+use pcef_gx_dialogue::{CcaDrop, Says, apart, do_grant, read_answer, with_stops};
 use pcef_handle::{Handle, OpenSession};
 use pcef_model::Profile;
 use pcef_rule::Qos;
@@ -109,6 +109,10 @@ impl Dialogue {
         ensures { GrantsIn (messages.asked asked.entry) self.old session.old result self.new (Some session.new) }
     {
         let (orders, left) = apart(asked);
+        let told = self.ccrs.past();
+        let Ok(orders) = with_stops(alloc, session.world.session(), told, orders) else {
+            return Err(HearRefusal::NoMemory);
+        };
         let len = self.due.len();
         let Ok(()) = self.tell_kept(alloc, left.default_qos) else {
             return Err(HearRefusal::NoMemory);

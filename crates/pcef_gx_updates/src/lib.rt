@@ -12,4 +12,4 @@ mod triggers;
 mod update;
 
 pub use laws::usage_adds_up;
-pub use update::{MAX_REPORTS, Update, next_update};
+pub use update::{MAX_REPORTS, Update, next_update, update_octets};

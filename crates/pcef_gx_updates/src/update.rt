@@ -32,9 +32,14 @@ fn first_of(reports: &[Report]) -> &[Report]
     reports.split_at(MAX_REPORTS).0
 }
 
-/// The AVPs of these reports.
+/// The AVPs that tell these reports, in octets: each report by one AVP, behind each of their event triggers once;
+/// LOSS_OF_BEARER where the PCRF asked for it (TS 29.212, clauses 4.5.3 and 5.3.7). Takes memory; an `Err` is want of it.
 #[tactic(auto, using(pcef_diameter::proofs::Parts::parts_octets))]
-fn avps(alloc: Global, asks_for_loss: bool, reports: &[Report]) -> Result<Vec<u8>, AllocError>
+pub fn update_octets(
+    alloc: Global,
+    asks_for_loss: bool,
+    reports: &[Report],
+) -> Result<Vec<u8>, AllocError>
     ensures { IfOk result (λ avps.
         avps.items ≡ avps_octets (update_avps asks_for_loss reports.now)) }
 {
@@ -62,7 +67,7 @@ pub fn next_update(
     let reports = journal.reports_from(told).to_vec(alloc)?;
     let first = first_of(&reports);
     Ok(Update {
-        avps: avps(alloc, asks_for_loss, first)?,
+        avps: update_octets(alloc, asks_for_loss, first)?,
         count: first.len(),
     })
 }

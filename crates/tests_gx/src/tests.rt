@@ -2,7 +2,8 @@
 //! `dissecting`, `avp_lengths`, `written_again`); what they ask for (`asking`, `completing`, `names`); what is written
 //! (`report_avps`, `sending`, `report_octets`, `updates`, `proxies`); a `node` for itself; and the dialogue (`playing`,
 //! `rars`, `refused_rars`, `orders`, `repeated_rars`, `repeating`, `ccr_octets`, `ccrs`, `cca_octets`, `hearing`,
-//! `granting`, `everything`, `changed_octets`, `scarce`); and a session over one handle (`one_session`, `handled`).
+//! `granting`, `everything`, `changed_octets`, `scarce`); and sessions over one handle (`one_session`,
+//! `used_up`, `handled`).
 
 mod asking;
 mod avp_lengths;
@@ -34,6 +35,7 @@ mod report_octets;
 mod scarce;
 mod sending;
 mod updates;
+mod used_up;
 mod worked_messages;
 mod written_again;
 

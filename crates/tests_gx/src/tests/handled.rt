@@ -1,4 +1,4 @@
-//! A session over one handle, from its first CCR to its last.
+//! Sessions over one handle, from their first CCR to their last.
 
 use super::expect_equal;
 use super::hexadecimal::{is_hexadecimal_of, octets};
@@ -9,6 +9,10 @@ use super::one_session::{
     THRESHOLD_LATER, UNDELIVERED, UNDELIVERED_OTHER,
 };
 use super::playing::{SESSION_ID, identity};
+use super::used_up::{
+    GRANTED_MEANWHILE, LAST_OF_GRANTED, LAST_OF_GRANTED_HEARD, LAST_OF_STOPPED,
+    LAST_OF_STOPPED_HEARD, MEANWHILE_DONE, REST, REST_HEARD, STOPPED_BY,
+};
 use pcef_gx_dialogue::{Grant, RarDone};
 use pcef_gx_handle::{EndRefusal, GxHandle, HearRefusal, Heard, NextRefusal, Stage, notice};
 use pcef_gx_messages::{RequestKind, RequestMark};
@@ -61,7 +65,8 @@ enum Play {
 const TAKE: &str =
     "{\"do\":\"take\",\"worker\":0,\"dir\":\"down\",\"packet\":\"4500001c0000000040110000c63364070a0000020035138800080000\"}";
 
-static PLAYS: [Play; 48] = [
+/// A session with all that may come.
+static WHOLE: [Play; 48] = [
     Play::Stands(Stage::Opening),
     Play::Next(1, RequestKind::Initial, FIRST_REQUEST),
     Play::Nothing,
@@ -113,6 +118,58 @@ static PLAYS: [Play; 48] = [
     Play::Hear(OVER, Said::Ended),
     Play::Stands(Stage::Over),
     Play::Nothing,
+];
+
+/// A session whose PCRF hears that its grant is used up, and grants nothing more: monitoring stops, and what came behind the
+/// threshold is told.
+static STOPPED: [Play; 22] = [
+    Play::Next(1, RequestKind::Initial, FIRST_REQUEST),
+    Play::Hear(GRANTED, Said::Told),
+    Play::Next(2, RequestKind::Update, RULE_FAILED),
+    Play::Hear(HEARD, Said::Told),
+    Play::Line("{\"do\":\"attach\"}", ""),
+    Play::Line(TAKE, ""),
+    Play::Line(TAKE, ""),
+    Play::Line(TAKE, ""),
+    Play::Line(TAKE, ""),
+    Play::Line("{\"do\":\"flush\",\"worker\":0}", ""),
+    Play::Next(3, RequestKind::Update, THRESHOLD),
+    Play::Line(TAKE, ""),
+    Play::Line("{\"do\":\"flush\",\"worker\":0}", ""),
+    Play::Hear(STOPPED_BY, Said::Told),
+    Play::Next(4, RequestKind::Update, REST),
+    Play::Hear(REST_HEARD, Said::Told),
+    Play::Line("{\"do\":\"refresh\",\"worker\":0}", ""),
+    Play::Line(TAKE, ""),
+    Play::Line("{\"do\":\"finish\",\"worker\":0}", ""),
+    Play::End,
+    Play::Next(5, RequestKind::Termination, LAST_OF_STOPPED),
+    Play::Hear(LAST_OF_STOPPED_HEARD, Said::Ended),
+];
+
+/// The same session, where a RAR grants more while the CCR-U is out: monitoring goes on.
+static GOES_ON: [Play; 21] = [
+    Play::Next(1, RequestKind::Initial, FIRST_REQUEST),
+    Play::Hear(GRANTED, Said::Told),
+    Play::Next(2, RequestKind::Update, RULE_FAILED),
+    Play::Hear(HEARD, Said::Told),
+    Play::Line("{\"do\":\"attach\"}", ""),
+    Play::Line(TAKE, ""),
+    Play::Line(TAKE, ""),
+    Play::Line(TAKE, ""),
+    Play::Line(TAKE, ""),
+    Play::Line("{\"do\":\"flush\",\"worker\":0}", ""),
+    Play::Next(3, RequestKind::Update, THRESHOLD),
+    Play::Hear(GRANTED_MEANWHILE, Said::Answered),
+    Play::Reply(MEANWHILE_DONE),
+    Play::Line(TAKE, ""),
+    Play::Hear(STOPPED_BY, Said::Told),
+    Play::Nothing,
+    Play::Line(TAKE, ""),
+    Play::Line("{\"do\":\"finish\",\"worker\":0}", ""),
+    Play::End,
+    Play::Next(4, RequestKind::Termination, LAST_OF_GRANTED),
+    Play::Hear(LAST_OF_GRANTED_HEARD, Said::Ended),
 ];
 
 /// What a message said.
@@ -223,11 +280,16 @@ fn begins(alloc: Global, gx: &mut GxHandle) -> bool {
         .is_ok()
 }
 
-/// The place of the first play that doesn't come out as is due.
-fn first_wrong(alloc: Global, gx: &mut GxHandle, handle: &mut Handle) -> Option<u8> {
+/// The place of the first of these plays that doesn't come out as is due; 255 where the dialogue doesn't begin.
+fn first_wrong(alloc: Global, plays: &[Play]) -> Option<u8> {
+    let mut gx = GxHandle::new(alloc);
+    let mut handle = Handle::new(alloc);
+    if !begins(alloc, &mut gx) {
+        return Some(255);
+    }
     let mut place = 0;
-    for play in &PLAYS {
-        if !is_due(alloc, gx, handle, play) {
+    for play in plays {
+        if !is_due(alloc, &mut gx, &mut handle, play) {
             return Some(place);
         }
         place = u8::saturating_add(place, 1);
@@ -235,14 +297,15 @@ fn first_wrong(alloc: Global, gx: &mut GxHandle, handle: &mut Handle) -> Option<
     None
 }
 
-/// A session is proposed, granted, told of, and ended; each CCR and each answer is octet for octet as another program
+/// Sessions are proposed, granted, told of, and ended; each CCR and each answer is octet for octet as another program
 /// worked it.
 #[test]
-fn a_session_goes_from_its_first_request_to_its_last(rt: HostRuntime) -> Result<(), Fail> {
-    let mut gx = GxHandle::new(rt.alloc());
-    let mut handle = Handle::new(rt.alloc());
-    let begun = begins(rt.alloc(), &mut gx);
-    let wrong = first_wrong(rt.alloc(), &mut gx, &mut handle);
-    expect_equal(&rt, &(begun, wrong), &(true, None));
+fn sessions_go_from_their_first_request_to_their_last(rt: HostRuntime) -> Result<(), Fail> {
+    let wrong = [
+        first_wrong(rt.alloc(), &WHOLE),
+        first_wrong(rt.alloc(), &STOPPED),
+        first_wrong(rt.alloc(), &GOES_ON),
+    ];
+    expect_equal(&rt, &wrong, &[None; 3]);
     Ok(())
 }
