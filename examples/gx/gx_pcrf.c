@@ -2,7 +2,8 @@
  * a session with the AVPs of the line `cca` of its rules, and then sends a RAR for each line `rar`, one every 0.7
  * seconds. One that reports usage is answered with the AVPs of a line `update`. What it receives goes into freeDiameter's
  * log; or, with `RULES FIFO HEARD` as the extension's argument, as lines of JSON into the file HEARD, and each line
- * `rar SESSION-ID AVPS` of the FIFO sends a RAR, to all sessions that it knows where SESSION-ID is `*`.
+ * `rar SESSION-ID AVPS` of the FIFO sends a RAR, to all sessions that it knows where SESSION-ID is `*`; behind the line
+ * `mute` it hears CCRs and answers none.
  *
  *     gcc -Wall -O1 -shared -fPIC -o gx_pcrf.fdx gx_pcrf.c -lfdcore -lfdproto -lpthread
  *     freeDiameterd -c pcrf.conf
@@ -43,6 +44,7 @@ static pthread_mutex_t lock = PTHREAD_MUTEX_INITIALIZER; /* round what follows *
 static struct session_names *sessions;
 static char commands_path[256];
 static int heard = -1; /* the file for what is heard */
+static volatile int is_mute;
 
 static struct dict_object *avp_named(const char *name)
 {
@@ -384,6 +386,11 @@ static int on_ccr(struct msg **message, struct avp *avp, struct session *session
     const char *text;
     (void)avp, (void)session, (void)data;
     tell("CCR", *message);
+    if (is_mute) {
+        fd_msg_free(*message);
+        *message = NULL;
+        return 0;
+    }
     uint32_t type = number_in(*message, "CC-Request-Type");
     uint32_t number = number_in(*message, "CC-Request-Number");
     text_in(*message, "Session-Id", names.id, sizeof names.id);
@@ -431,7 +438,9 @@ static void *obey(void *data)
         char id[256];
         int at = 0;
         line[strcspn(line, "\r\n")] = 0;
-        if (sscanf(line, "rar %255s %n", id, &at) != 1 || !at)
+        if (!strcmp(line, "mute"))
+            is_mute = 1;
+        else if (sscanf(line, "rar %255s %n", id, &at) != 1 || !at)
             fd_log_error("gx_pcrf: '%s' is no command", line);
         else if (!strcmp(id, "*"))
             send_to_all(line + at);
