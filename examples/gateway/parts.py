@@ -104,7 +104,7 @@ class Place:
     def __enter__(self):
         for number in (signal.SIGINT, signal.SIGTERM):
             signal.signal(number, lambda *_: sys.exit(1))
-        self.folder = tempfile.mkdtemp()
+        self.folder = tempfile.mkdtemp(prefix=f"{self.name}.")
         try:
             for space in self.spaces:
                 run("ip", "netns", "add", f"{self.name}{space}")
@@ -165,6 +165,27 @@ class Place:
     def octets(self, space):
         """What the device's user sent, and what came to it."""
         return self.counter(space, "tx_bytes"), self.counter(space, "rx_bytes")
+
+
+# Sends packets of a length from sixteen ports, many a call: the kernel cuts them apart (UDP_SEGMENT).
+SENDER = """import socket
+many, length = b'x' * (%(length)d - 28) * 40, %(length)d - 28
+ports = [socket.socket(socket.AF_INET, socket.SOCK_DGRAM) for _ in range(16)]
+for port in ports:
+    port.setsockopt(socket.SOL_UDP, 103, length)
+    port.connect(('%(to)s', 9))
+while True:
+    for port in ports:
+        port.send(many)"""
+# A port that nobody reads: what comes is dropped there.
+SINK = f"import socket, time; s = socket.socket(socket.AF_INET, socket.SOCK_DGRAM); s.bind(('{NETWORK[0]}', 9)); time.sleep(600)"
+
+
+def flood(place, space, length):
+    """A user sends as fast as it can. Returns the processes of both ends."""
+    sink = place.start("net", sys.executable, "-c", SINK)
+    waits("the port is there", lambda: ":9 " in run(*place.inside("net", "ss", "-Hlun")))
+    return place.start(space, sys.executable, "-c", SENDER % {"length": length, "to": NETWORK[0]}), sink
 
 
 class Pcrf:

@@ -11,8 +11,9 @@
 enum { OCTETS = 2048, TURNS = 256 }; /* after so many turns rows that wait are handed over */
 struct gateway_worker workers[MOST_WORKERS];
 
-/* The user that a packet of a device is of. Who sends in another user's name has to do so by that one's device. */
-static user *user_of(const pcef_packet *packet, int device) {
+/* The user that a packet of a device is of, mostly that of the last one. Who sends in another user's name has to do so by
+ * that one's device. */
+static inline user *user_of(const pcef_packet *packet, int device, user *last) {
     ip_address address = (ip_address)0xffff0000 << 64;
     if (packet->length >= 20 && packet->octets[0] >> 4 == 4)
         memcpy((uint8_t *)&address + 12, packet->octets + (packet->up ? 12 : 16), 4);
@@ -20,7 +21,7 @@ static user *user_of(const pcef_packet *packet, int device) {
         memcpy(&address, packet->octets + (packet->up ? 8 : 24), 16);
     else
         return NULL;
-    user *of = find_user(address);
+    user *of = last && last->address == address ? last : find_user(address);
     return of && (device == 0 || of->device == device) ? of : NULL;
 }
 
@@ -53,9 +54,9 @@ static void take(struct gateway_worker *me, user *of, const pcef_packet *packets
 
 /* Takes packets, user by user as they stand beside each other. */
 static void take_all(struct gateway_worker *me, int device, const pcef_packet *packets, size_t count) {
-    user *of = user_of(&packets[0], device), *other = NULL;
+    user *of = user_of(&packets[0], device, NULL), *other = NULL;
     for (size_t first = 0, next; first < count; first = next, of = other) {
-        for (next = first + 1; next < count && (other = user_of(&packets[next], device)) == of; next++) continue;
+        for (next = first + 1; next < count && (other = user_of(&packets[next], device, of)) == of; next++) continue;
         if (of) take(me, of, packets + first, next - first);
         else add(&me->without_session, next - first);
     }
