@@ -24,7 +24,7 @@ static void send_due(user *of) {
     }
     pthread_mutex_unlock(&of->lock);
     if (kind > PCEF_GX_TERMINATION) of->retry_at = milliseconds() + RETRY_AFTER;
-    if (!kind || of->retry_at) return;
+    if (!kind || kind > PCEF_GX_TERMINATION) return;
     add(&requests_out[kind], 1);
     log_user(of, "told", ",\"by\":\"CCR-%c\"", "?IUT"[kind]);
     send_out(of);
