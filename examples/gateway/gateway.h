@@ -8,7 +8,7 @@
 #include <stdlib.h>
 #include <string.h>
 
-enum { MOST_WORKERS = 16, MOST_DEVICES = 16, MOST_USERS = 4096, BATCH = 32, MESSAGE = 65536 };
+enum { MOST_WORKERS = 16, MOST_DEVICES = 16, MOST_USERS = 4096, BATCH = 32, MESSAGE = 1 << 20 };
 
 extern struct settings {
     int workers, devices;            /* device 0 is the network's, those behind it are the users' */

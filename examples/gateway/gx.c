@@ -60,11 +60,11 @@ uint8_t *gx_octets(struct msg *message, size_t *length) {
 
 uint32_t gx_end_to_end(void) { return fd_msg_eteid_get(); }
 
-/* freeDiameter's message of octets that the library wrote. */
+/* freeDiameter's message of octets that the library wrote, if there was room for all. */
 static struct msg *parsed(const uint8_t *octets, size_t length) {
     struct msg *message = NULL;
-    uint8_t *copy = memcpy(room(length), octets, length);
-    if (fd_msg_parse_buffer(&copy, length, &message)) free(copy);
+    uint8_t *copy = length <= MESSAGE ? memcpy(room(length), octets, length) : NULL;
+    if (!copy || fd_msg_parse_buffer(&copy, length, &message)) free(copy);
     else if (!fd_msg_parse_dict(message, DICTIONARY, NULL)) return message;
     else fd_msg_free(message);
     return NULL;

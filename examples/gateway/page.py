@@ -56,7 +56,8 @@ def chart(curves, marks):
 def table(rows):
     heads = ("", "address", "octets of its device", "dropped by the gateway", "told to the PCRF", "of the key video")
     places = (LEFT, 150, 430, 600, 750, WIDE - 50)
-    drawn = [text(x, BOTTOM + 60, head, 12, "end" if place > 1 else "start", "#666") for place, (x, head) in enumerate(zip(places, heads))]
+    drawn = [text(x, BOTTOM + 60, head, 12, "end" if place > 1 else "start", "#666")
+             for place, (x, head) in enumerate(zip(places, heads))]
     drawn.append(line(LEFT, BOTTOM + 68, WIDE - 50, BOTTOM + 68))
     for number, row in enumerate(rows):
         for place, (x, cell) in enumerate(zip(places, row)):

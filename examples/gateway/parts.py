@@ -110,7 +110,8 @@ class Place:
                 run("ip", "netns", "add", f"{self.name}{space}")
                 run(*self.inside(space, "ip", "link", "set", "lo", "up"))
             # freeDiameter says in its CER where it is, and won't say 127.0.0.1.
-            run(*self.inside("gw", "ip", "link", "add", "gx", "type", "veth", "peer", "name", "gx", "netns", f"{self.name}pcrf"))
+            peer = ("peer", "name", "gx", "netns", f"{self.name}pcrf")
+            run(*self.inside("gw", "ip", "link", "add", "gx", "type", "veth", *peer))
             for space, address in (("gw", GATEWAY), ("pcrf", PCRF)):
                 run(*self.inside(space, "ip", "addr", "add", f"{address}/24", "dev", "gx"))
                 run(*self.inside(space, "ip", "link", "set", "gx", "up"))
@@ -152,9 +153,11 @@ class Place:
         """Gives a device that the gateway has opened to its namespace, with addresses, and nothing that speaks by itself."""
         device = self.device(space)
         run(*self.inside("gw", "ip", "link", "set", device, "netns", self.name + space))
-        script = f"echo 1 > /proc/sys/net/ipv6/conf/{device}/addr_gen_mode; ip link set {device} txqueuelen 10000 multicast off up"
+        script = f"echo 1 > /proc/sys/net/ipv6/conf/{device}/addr_gen_mode"
+        script += f"; ip link set {device} txqueuelen 10000 multicast off up"
         for address in addresses:
-            script += f"; ip addr add {address}/{128 if ':' in address else 32} dev {device} {'nodad' if ':' in address else ''}"
+            more = ("128", "nodad") if ":" in address else ("32", "")
+            script += f"; ip addr add {address}/{more[0]} dev {device} {more[1]}"
         for peer in peers:
             script += f"; ip route add {peer} dev {device}"
         run(*self.inside(space, "sh", "-ec", script))
@@ -178,7 +181,10 @@ while True:
     for port in ports:
         port.send(many)"""
 # A port that nobody reads: what comes is dropped there.
-SINK = f"import socket, time; s = socket.socket(socket.AF_INET, socket.SOCK_DGRAM); s.bind(('{NETWORK[0]}', 9)); time.sleep(600)"
+SINK = f"""import socket, time
+port = socket.socket(socket.AF_INET, socket.SOCK_DGRAM)
+port.bind(('{NETWORK[0]}', 9))
+time.sleep(600)"""
 
 
 def flood(place, space, length):
@@ -274,8 +280,8 @@ class Gateway:
     def build(path):
         kit = os.path.join(os.path.dirname(os.path.dirname(os.path.realpath(shutil.which("rt")))), "c")
         sources = sorted(f"{HERE}/{name}" for name in os.listdir(HERE) if name.endswith(".c"))
-        run("gcc", "-std=gnu11", "-O2", "-g", "-pthread", "-Wall", "-Wextra", "-Werror", f"-I{TOP}/include", *sources, library(),
-            f"{kit}/libos_c.a", f"{kit}/liblibc_c.a", "-lfdcore", "-lfdproto", "-o", path)
+        flags = ["-std=gnu11", "-O2", "-g", "-pthread", "-Wall", "-Wextra", "-Werror", f"-I{TOP}/include"]
+        run("gcc", *flags, *sources, library(), f"{kit}/libos_c.a", f"{kit}/liblibc_c.a", "-lfdcore", "-lfdproto", "-o", path)
 
     def has_ended(self):
         if self.process.poll() is not None:
@@ -288,7 +294,8 @@ class Gateway:
             return file.read()
 
     def log(self, **values):
-        lines = [json.loads(line) for line in self.text().splitlines(keepends=True) if line.startswith("{") and line.endswith("}\n")]
+        whole = [line for line in self.text().splitlines(keepends=True) if line.startswith("{") and line.endswith("}\n")]
+        lines = map(json.loads, whole)
         return [line for line in lines if all(line.get(name) == value for name, value in values.items())]
 
     def says(self, line):
