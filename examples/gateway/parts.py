@@ -16,8 +16,8 @@ HERE = os.path.dirname(os.path.abspath(__file__))
 TOP = os.path.dirname(os.path.dirname(HERE))
 NETWORK = ("198.51.100.7", "2001:db8:ffff::7")
 GATEWAY, PCRF = "192.0.2.1", "192.0.2.2"
-HEADER = "/usr/include/freeDiameter/extension.h"
-WORDS = ("rt", "gcc", "ip", "setpriv", "openssl", "freeDiameterd")
+FILES = ("/usr/include/freeDiameter/extension.h", "/usr/lib/freeDiameter/dict_dcca_3gpp.fdx", "/dev/net/tun")
+WORDS = ("rt", "gcc", "ip", "setpriv", "unshare", "openssl", "freeDiameterd")
 ARP = "Allocation-Retention-Priority{Priority-Level=8 Pre-emption-Capability=1 Pre-emption-Vulnerability=0}"
 
 
@@ -30,8 +30,11 @@ def library():
 def lacks(*words):
     """What isn't there of all that a play needs."""
     missing = [word for word in (*WORDS, *words) if not shutil.which(word)]
-    missing += [path for path in (library(), HEADER, "/dev/net/tun") if not os.path.exists(path)]
-    return missing + (["root"] if os.getuid() else [])
+    missing += [path for path in (library(), *FILES) if not os.path.exists(path)]
+    if os.getuid():
+        return missing + ["root"]
+    spaces = subprocess.run(["unshare", "-n", "true"], stderr=subprocess.DEVNULL, check=False).returncode == 0
+    return missing + ([] if spaces else ["network namespaces"])
 
 
 def is_quick():
