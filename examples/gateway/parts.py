@@ -258,11 +258,11 @@ class Pcrf:
 class Gateway:
     """The gateway, its devices and its log."""
 
-    def __init__(self, place, workers, *options, before=(), profile=None):
+    def __init__(self, place, workers, *options, before=(), profile=None, flags=()):
         self.place, folder = place, place.folder
         self.metrics, self.faults = f"{folder}/metrics", f"{folder}/gateway.faults"
         if not os.path.exists(f"{folder}/gateway"):
-            self.build(f"{folder}/gateway")
+            self.build(f"{folder}/gateway", *flags)
         shutil.copy(f"{HERE}/peers.conf", folder)
         with open(f"{HERE}/gateway.toml", encoding="utf-8") as file:
             text = file.read()
@@ -280,11 +280,11 @@ class Gateway:
         self.lines = self.process.stdin
 
     @staticmethod
-    def build(path):
+    def build(path, *more):
         kit = os.path.join(os.path.dirname(os.path.dirname(os.path.realpath(shutil.which("rt")))), "c")
         sources = sorted(f"{HERE}/{name}" for name in os.listdir(HERE) if name.endswith(".c"))
         flags = ["-std=gnu11", "-O2", "-g", "-pthread", "-Wall", "-Wextra", "-Werror", f"-I{TOP}/include"]
-        run("gcc", *flags, *sources, library(), f"{kit}/libos_c.a", f"{kit}/liblibc_c.a", "-lfdcore", "-lfdproto", "-o", path)
+        run("gcc", *flags, *more, *sources, library(), f"{kit}/libos_c.a", f"{kit}/liblibc_c.a", "-lfdcore", "-lfdproto", "-o", path)
 
     def has_ended(self):
         if self.process.poll() is not None:
