@@ -1,49 +1,106 @@
-/* The gateway's parts: sessions.c has the sessions behind their lock, gateway.c the devices and threads. */
+/* The gateway's parts. Each file says one thing, which stands below before its calls. */
 #ifndef GATEWAY_H
 #define GATEWAY_H
 #include "pcef.h"
 #include <pthread.h>
+#include <stdatomic.h>
 #include <stdio.h>
 #include <stdlib.h>
 #include <string.h>
 
-enum { MOST_WORKERS = 16, BATCH = 32, KEYS = 8, ANSWER = 65536 };
+enum { MOST_WORKERS = 16, MOST_DEVICES = 16, MOST_USERS = 4096, BATCH = 32, MESSAGE = 1 << 20 };
 
-/* One of the two sessions that there may be at once, while workers change from the first to the second. */
-typedef struct {
-    pcef_session *at;
-    int is_open, attached;
-    uint64_t rows;             /* that were handed over */
-    uint64_t next_report;      /* the number of the first report that wasn't written yet */
-    uint64_t key_octets[KEYS]; /* what its workers counted by their own verdicts */
-} gateway_session;
+extern struct settings {
+    int workers, devices;            /* device 0 is the network's, those behind it are the users' */
+    int is_bare;                     /* forward all, judge nothing: what the rest is measured beside */
+    const char *device_names[MOST_DEVICES], *metrics, *identity, *realm;
+    char profile[32768];             /* of every session, without `ue` */
+} settings;
 
-typedef struct {
-    pthread_t thread;
-    int ue, net, wake;         /* its queues of both devices, and an event */
+typedef _Atomic uint64_t counter;    /* a number that one thread changes and others read */
+static inline void add(counter *to, uint64_t more) {
+    atomic_store_explicit(to, atomic_load_explicit(to, memory_order_relaxed) + more, memory_order_relaxed);
+}
+
+/* The octets of an address; one of version 4 is ::ffff:a.b.c.d. */
+typedef unsigned __int128 ip_address;
+
+/* A worker's part in a user's session. */
+typedef struct lane {
     pcef_worker *worker;
-    gateway_session *session;  /* that it is attached to */
-    uint64_t stamp;            /* of the session and the generation that it holds */
-    size_t waits;              /* how many of its rows wait */
-    uint64_t key_octets[KEYS]; /* its own count since it came to the session, by the slots of its verdicts */
-    uint64_t passed, passed_octets, dropped, dropped_octets, not_written;
-    uint64_t rows, hand_overs, refreshes;
-} gateway_worker;
+    uint64_t generation;             /* of the rules that it holds */
+    struct user *of;
+    struct lane *next_waiting;       /* in its worker's list of lanes whose rows may wait */
+    int is_waiting;
+    counter packets[4];              /* its rows, by verdict */
+    counter octets[4];               /* that passed to the user and from it, and those that didn't */
+} lane;
 
-/* Ends the program, which can't go on. */
+typedef struct user {
+    _Atomic(struct user *) next;     /* in its chain of the table */
+    ip_address address;
+    char text[48], subscriber[16];
+    int device;                      /* that its packets come by, and go to */
+    uint64_t number;
+    pthread_mutex_t lock;            /* round each call that names the session */
+    pcef_session *session;
+    uint64_t next_report;            /* the number of the next report that is due */
+    _Atomic uint64_t generation;     /* a hint: the newest */
+    atomic_bool is_full;             /* no more rows are taken: the next session is due */
+    lane *lanes;                     /* one for each worker */
+    /* What follows is the dialogues' thread's alone. */
+    pcef_gx *gx;
+    int is_open, is_leaving, comes_again;
+    uint64_t retry_at;               /* when the CCR that is out, or that failed, goes out once more; 0: not */
+} user;
+
+/* main.c: the words, the lines that open and end sessions, and the end. `room` gives memory of zeros. */
 _Noreturn void fail(const char *what, int number);
-
-void open_first(const char *profile, int workers, void (*wake_all)(void));
-size_t command(const char *line, size_t length, uint8_t answer[ANSWER]);
-
-/* What a worker does with its session. Each takes the lock. */
-void join(gateway_worker *me);
-void keep_up(gateway_worker *me);
-void hand_over(gateway_worker *me);
-void leave(gateway_worker *me);
-
-/* The end of the program: its workers see it by `ends`. */
-int ends(void);
-void end_all(void);
-void free_all(void);
+void *room(size_t size);
+/* users.c: who has which address, and which number. */
+user *find_user(ip_address address);
+void show_user(user *of);
+void hide_user(user *of);
+user *new_user(const char *text, const char *subscriber, int device);
+void free_user(user *of);
+user *user_numbered(uint64_t number);
+user *user_after(const user *last);
+/* worker.c: a thread that judges, counts and forwards between TUN devices. */
+extern struct gateway_worker {
+    pthread_mutex_t turn;            /* held while it has packets: who takes a user away waits for that */
+    pthread_t thread;
+    int number, queues[MOST_DEVICES];
+    lane *waiting;
+    counter without_session;         /* packets of no user */
+} workers[MOST_WORKERS];
+void start_workers(void);
+/* session.c: workers and their session, behind its lock. */
+void attach_all(user *of);
+void finish_all(user *of);
+int hand_over(user *of, lane *of_worker);
+void refresh(user *of, lane *of_worker);
+/* dialogue.c: what the PCRF asks for and is told; one thread for all users. */
+void *run_dialogues(void *nothing);
+/* gx.c: freeDiameter in this process, which carries messages of Gx; and what the dialogues' thread is told. */
+typedef struct {
+    enum { LINE_CAME, MESSAGE_CAME, NO_ANSWER, CCR_IS_DUE, ALL_LEAVE } kind;
+    uint64_t number;                 /* of the user */
+    struct msg *message;             /* freeDiameter's */
+    char line[128];
+} event;
+void post(event what);
+event *next_event(uint64_t until);
+void gx_start(const char *configuration);
+void gx_stop(void);
+uint32_t gx_end_to_end(void);
+int gx_send_request(const uint8_t *octets, size_t length, uint64_t user_number);
+uint8_t *gx_octets(struct msg *message, size_t *length);
+void gx_reply(struct msg *message, const uint8_t *octets, size_t length);
+void gx_refuse(struct msg *message);
+/* metrics.c: totals for Prometheus, and the log of sessions. */
+extern counter requests_out[4];      /* by their kind; those that went out once more stand at 0 */
+uint64_t milliseconds(void);
+void write_metrics(void);
+void log_user(const user *of, const char *what, const char *format, ...) __attribute__((format(printf, 3, 4)));
+void log_end(user *of, const char *is_told);
 #endif

@@ -1,6 +1,9 @@
 /* A PCRF for tests, as an extension of freeDiameter 1.2: it answers each CCR of Gx with DIAMETER_SUCCESS, the first of
  * a session with the AVPs of the line `cca` of its rules, and then sends a RAR for each line `rar`, one every 0.7
- * seconds. What it receives goes into freeDiameter's log.
+ * seconds. One that reports usage is answered with the AVPs of a line `update`. What it receives goes into freeDiameter's
+ * log; or, with `RULES FIFO HEARD` as the extension's argument, as lines of JSON into the file HEARD, and each line
+ * `rar SESSION-ID AVPS` of the FIFO sends a RAR, to all sessions that it knows where SESSION-ID is `*`; behind the line
+ * `mute` it hears CCRs and answers none.
  *
  *     gcc -Wall -O1 -shared -fPIC -o gx_pcrf.fdx gx_pcrf.c -lfdcore -lfdproto -lpthread
  *     freeDiameterd -c pcrf.conf
@@ -8,22 +11,40 @@
  * README.md beside it has the packages, and the certificate that freeDiameter wants. rules.conf says how AVPs are
  * written. */
 #include <ctype.h>
+#include <fcntl.h>
 #include <freeDiameter/extension.h>
 
 #define GX 16777238
 #define THREE_GPP 10415
 #define MAX_TEXT 16384
 #define MAX_RARS 16
+#define MAX_ANSWERS 32
 #define DICTIONARY (fd_g_config->cnf_dict)
 
 static struct dict_object *credit_control_request, *re_auth_request;
-static char cca_text[MAX_TEXT], rar_texts[MAX_RARS][MAX_TEXT];
+static char rar_texts[MAX_RARS][MAX_TEXT];
 static int rar_count;
+
+/* What an answer says besides: to the first CCR, or to one that reports usage, of a subscriber or, where it is empty, of
+ * those that no such line names. */
+static struct answer {
+    int is_first;
+    char subscriber[64], text[MAX_TEXT];
+} answers[MAX_ANSWERS];
+static int answer_count;
 
 /* A session as its first CCR names it. */
 struct session_names {
-    char id[256], host[256], realm[256];
+    char id[256], host[256], realm[256], subscriber[64];
+    int updates; /* how many of its CCRs reported usage */
+    struct session_names *next;
 };
+
+static pthread_mutex_t lock = PTHREAD_MUTEX_INITIALIZER; /* round what follows */
+static struct session_names *sessions;
+static char commands_path[256];
+static int heard = -1; /* the file for what is heard */
+static volatile int is_mute;
 
 static struct dict_object *avp_named(const char *name)
 {
@@ -111,10 +132,114 @@ static void log_message(const char *what, struct msg *message)
     free(text);
 }
 
+/* ---- What is heard, as lines */
+
+struct line {
+    char text[8192];
+    size_t length;
+};
+
+static void put(struct line *line, const char *format, ...) __attribute__((format(printf, 2, 3)));
+
+static void put(struct line *line, const char *format, ...)
+{
+    va_list words;
+    va_start(words, format);
+    int more = vsnprintf(line->text + line->length, sizeof line->text - line->length, format, words);
+    va_end(words);
+    if (more > 0 && line->length + (size_t)more < sizeof line->text)
+        line->length += (size_t)more;
+}
+
+/* The octets of an AVP, as JSON. */
+static void put_octets(struct line *line, const union avp_value *value)
+{
+    put(line, "\"");
+    for (size_t at = 0; at < value->os.len; at++) {
+        uint8_t octet = value->os.data[at];
+        if (octet < 0x20 || octet > 0x7e || octet == '"' || octet == '\\')
+            put(line, "\\u%04x", octet);
+        else
+            put(line, "%c", octet);
+    }
+    put(line, "\"");
+}
+
+static struct avp *first_in(msg_or_avp *parent)
+{
+    struct avp *first = NULL;
+    return fd_msg_browse(parent, MSG_BRW_FIRST_CHILD, &first, NULL) ? NULL : first;
+}
+
+static struct avp *behind(struct avp *avp)
+{
+    struct avp *next = NULL;
+    return fd_msg_browse(avp, MSG_BRW_NEXT, &next, NULL) ? NULL : next;
+}
+
+/* What the AVPs of a message or a group say, of those that a PCRF for tests asks for. */
+static void put_avps(struct line *line, msg_or_avp *parent)
+{
+    static const struct { uint32_t code; int kind; const char *name; } KNOWN[] = {
+        {263, 't', "session"}, {416, 'n', "type"}, {415, 'n', "number"}, {444, 't', "subscriber"}, {268, 'n', "result"},
+        {298, 'n', "experimental"}, {443, 'f', NULL}, {297, 'f', NULL}, {446, 'f', NULL}, {1067, 'g', "usage"},
+        {1018, 'g', "rule"}, {1066, 't', "key"}, {421, 'l', "octets"}, {1005, 't', "name"}, {1019, 'n', "status"},
+        {1031, 'n', "code"}, {1006, 'n', "trigger"}};
+    for (struct avp *avp = first_in(parent); avp; avp = behind(avp)) {
+        struct avp_hdr *header;
+        if (fd_msg_avp_hdr(avp, &header))
+            continue;
+        for (size_t at = 0; at < sizeof KNOWN / sizeof *KNOWN; at++) {
+            if (KNOWN[at].code != header->avp_code)
+                continue;
+            if (KNOWN[at].kind == 'f')
+                put_avps(line, avp);
+            else if (KNOWN[at].kind == 'g') {
+                put(line, ",[\"%s\"", KNOWN[at].name);
+                put_avps(line, avp);
+                put(line, "]");
+            } else if (header->avp_value && KNOWN[at].kind == 't') {
+                put(line, ",[\"%s\",", KNOWN[at].name);
+                put_octets(line, header->avp_value);
+                put(line, "]");
+            } else if (header->avp_value)
+                put(line, ",[\"%s\",%llu]", KNOWN[at].name, KNOWN[at].kind == 'l'
+                    ? (unsigned long long)header->avp_value->u64 : (unsigned long long)header->avp_value->u32);
+        }
+    }
+}
+
+/* Writes a line: the kind of a message, when it came or went, whether it has the T bit, and what it says. */
+static void write_line(const char *what, struct msg *message)
+{
+    struct line line = {.length = 0};
+    struct timespec now;
+    struct msg_hdr *header;
+    if (fd_msg_hdr(message, &header))
+        return;
+    clock_gettime(CLOCK_REALTIME, &now);
+    put(&line, "[\"%s\",[\"time\",%ld.%09ld],[\"again\",%s]", what, (long)now.tv_sec, now.tv_nsec,
+        header->msg_flags & CMD_FLAG_RETRANSMIT ? "true" : "false");
+    put_avps(&line, message);
+    put(&line, "]\n");
+    if (write(heard, line.text, line.length) != (ssize_t)line.length)
+        fd_log_error("gx_pcrf: a line can't be written");
+}
+
+static void tell(const char *what, struct msg *message)
+{
+    if (heard >= 0)
+        write_line(what, message);
+    else if (strcmp(what, "RAR"))
+        log_message(what, message);
+}
+
+/* ---- Messages */
+
 static void on_raa(void *data, struct msg **message)
 {
     (void)data;
-    log_message("RAA", *message);
+    tell("RAA", *message);
     fd_msg_free(*message);
     *message = NULL;
 }
@@ -134,6 +259,7 @@ static int send_rar(const struct session_names *names, const char *text)
              names->id, GX, fd_g_config->cnf_diamid, fd_g_config->cnf_diamrlm, names->realm, names->host);
     CHECK_FCT(add_text(message, front));
     CHECK_FCT(add_text(message, text));
+    tell("RAR", message);
     return fd_msg_send(&message, on_raa, NULL);
 }
 
@@ -155,24 +281,88 @@ static struct avp_hdr *avp_in(struct msg *message, const char *name)
     struct avp_hdr *header = NULL;
     if (fd_msg_search_avp(message, avp_named(name), &avp) || !avp || fd_msg_avp_hdr(avp, &header))
         return NULL;
-    return header->avp_value ? header : NULL;
+    return header;
 }
 
 static uint32_t number_in(struct msg *message, const char *name)
 {
     struct avp_hdr *header = avp_in(message, name);
-    return header ? header->avp_value->u32 : 0;
+    return header && header->avp_value ? header->avp_value->u32 : 0;
 }
 
 static void text_in(struct msg *message, const char *name, char *text, size_t room)
 {
     struct avp_hdr *header = avp_in(message, name);
-    size_t len = header ? header->avp_value->os.len : 0;
+    size_t len = header && header->avp_value ? header->avp_value->os.len : 0;
     if (len >= room)
         len = room - 1;
     if (len)
         memcpy(text, header->avp_value->os.data, len);
     text[len] = 0;
+}
+
+/* The Subscription-Id-Data of a CCR; empty where there is none. */
+static void subscriber_in(struct msg *message, char *text, size_t room)
+{
+    struct avp *group = NULL;
+    text[0] = 0;
+    if (fd_msg_search_avp(message, avp_named("Subscription-Id"), &group) || !group)
+        return;
+    for (struct avp *avp = first_in(group); avp; avp = behind(avp)) {
+        struct avp_hdr *header;
+        if (!fd_msg_avp_hdr(avp, &header) && header->avp_code == 444 && header->avp_value)
+            snprintf(text, room, "%.*s", (int)header->avp_value->os.len, (const char *)header->avp_value->os.data);
+    }
+}
+
+/* ---- What it answers */
+
+static struct session_names **place_of(const char *id)
+{
+    struct session_names **at = &sessions;
+    while (*at && strcmp((*at)->id, id))
+        at = &(*at)->next;
+    return at;
+}
+
+/* The text of the line for a CCR: the subscriber's own, else everybody's; of its lines `update` each for one CCR, in
+ * order, and the last one for all that follow. */
+static const char *line_for(const char *subscriber, int is_first, int turn)
+{
+    const char *own = NULL, *every = NULL;
+    int own_turn = turn, every_turn = turn;
+    for (int at = 0; at < answer_count; at++) {
+        if (answers[at].is_first != is_first)
+            continue;
+        if (!answers[at].subscriber[0] && (!every || every_turn-- > 0))
+            every = answers[at].text;
+        if (answers[at].subscriber[0] && !strcmp(answers[at].subscriber, subscriber) && (!own || own_turn-- > 0))
+            own = answers[at].text;
+    }
+    return own ? own : every ? every : "";
+}
+
+/* Keeps the sessions, and finds what the answer to a CCR says besides. */
+static const char *answer_to(const struct session_names *names, uint32_t type, int has_usage)
+{
+    const char *text = "";
+    pthread_mutex_lock(&lock);
+    struct session_names **at = place_of(names->id), *known = *at;
+    if (!known && type != 3 && (known = malloc(sizeof *known))) {
+        *known = *names;
+        known->next = sessions;
+        sessions = known;
+    }
+    if (type == 1)
+        text = line_for(names->subscriber, 1, 0);
+    else if (type == 2 && has_usage && known)
+        text = line_for(known->subscriber, 0, known->updates++);
+    else if (type == 3 && known) {
+        *at = known->next;
+        free(known);
+    }
+    pthread_mutex_unlock(&lock);
+    return text;
 }
 
 /* Sends RARs of the session that a CCR opened, from a thread of their own. */
@@ -191,31 +381,94 @@ static void begin_rars(const struct session_names *names)
 
 static int on_ccr(struct msg **message, struct avp *avp, struct session *session, void *data, enum disp_action *action)
 {
-    struct session_names names;
+    struct session_names names = {.updates = 0};
     char front[256];
+    const char *text;
     (void)avp, (void)session, (void)data;
-    log_message("CCR", *message);
+    tell("CCR", *message);
+    if (is_mute) {
+        fd_msg_free(*message);
+        *message = NULL;
+        return 0;
+    }
     uint32_t type = number_in(*message, "CC-Request-Type");
     uint32_t number = number_in(*message, "CC-Request-Number");
     text_in(*message, "Session-Id", names.id, sizeof names.id);
     text_in(*message, "Origin-Host", names.host, sizeof names.host);
     text_in(*message, "Origin-Realm", names.realm, sizeof names.realm);
+    subscriber_in(*message, names.subscriber, sizeof names.subscriber);
+    text = answer_to(&names, type, avp_in(*message, "Usage-Monitoring-Information") != NULL);
     CHECK_FCT(fd_msg_new_answer_from_req(DICTIONARY, message, 0));
     CHECK_FCT(fd_msg_rescode_set(*message, "DIAMETER_SUCCESS", NULL, NULL, 1));
     snprintf(front, sizeof front, "Auth-Application-Id=%d CC-Request-Type=%u CC-Request-Number=%u", GX, type, number);
     CHECK_FCT(add_text(*message, front));
-    if (type == 1) {
-        CHECK_FCT(add_text(*message, cca_text));
+    CHECK_FCT(add_text(*message, text));
+    if (type == 1)
         begin_rars(&names);
-    }
     *action = DISP_ACT_SEND;
     return 0;
 }
 
-/* Reads the lines `cca` and `rar`; a line that begins with # is a comment. */
+/* Sends a RAR to a session, which this node may know only by its Session-Id: that begins with the host's name. */
+static void send_to(const char *id, const char *text)
+{
+    struct session_names names = {.updates = 0};
+    snprintf(names.id, sizeof names.id, "%s", id);
+    snprintf(names.host, sizeof names.host, "%.*s", (int)strcspn(id, ";"), id);
+    snprintf(names.realm, sizeof names.realm, "%s", fd_g_config->cnf_diamrlm);
+    if (send_rar(&names, text))
+        fd_log_error("gx_pcrf: no RAR goes to %s", id);
+}
+
+static void send_to_all(const char *text)
+{
+    pthread_mutex_lock(&lock);
+    for (struct session_names *known = sessions; known; known = known->next)
+        send_to(known->id, text);
+    pthread_mutex_unlock(&lock);
+}
+
+static void *obey(void *data)
+{
+    static char line[MAX_TEXT];
+    (void)data;
+    int file = open(commands_path, O_RDWR);
+    FILE *commands = file < 0 || fd_core_waitstartcomplete() ? NULL : fdopen(file, "r");
+    while (commands && fgets(line, sizeof line, commands)) {
+        char id[256];
+        int at = 0;
+        line[strcspn(line, "\r\n")] = 0;
+        if (!strcmp(line, "mute"))
+            is_mute = 1;
+        else if (sscanf(line, "rar %255s %n", id, &at) != 1 || !at)
+            fd_log_error("gx_pcrf: '%s' is no command", line);
+        else if (!strcmp(id, "*"))
+            send_to_all(line + at);
+        else
+            send_to(id, line + at);
+    }
+    return NULL;
+}
+
+/* Keeps a line `cca AVPS` or `update AVPS`, or one of these behind `for SUBSCRIBER`. */
+static void keep_answer(const char *line)
+{
+    struct answer *answer = &answers[answer_count];
+    int at = 0;
+    memset(answer, 0, sizeof *answer);
+    if (sscanf(line, "for %63s %n", answer->subscriber, &at) == 1 && at)
+        line += at;
+    answer->is_first = !strncmp(line, "cca ", 4);
+    if (answer_count + 1 == MAX_ANSWERS || (!answer->is_first && strncmp(line, "update ", 7)))
+        return;
+    strcpy(answer->text, strchr(line, ' '));
+    answer_count++;
+}
+
+/* Reads the lines `cca`, `update` and `rar`; a line that begins with # is a comment. */
 static int read_rules(const char *path)
 {
-    char line[MAX_TEXT];
+    static char line[MAX_TEXT];
     FILE *file = path ? fopen(path, "r") : NULL;
     if (!file) {
         fd_log_error("gx_pcrf: %s can't be read", path ? path : "no file of rules");
@@ -223,10 +476,10 @@ static int read_rules(const char *path)
     }
     while (fgets(line, sizeof line, file)) {
         line[strcspn(line, "\r\n")] = 0;
-        if (!strncmp(line, "cca ", 4))
-            strcpy(cca_text, line + 4);
-        else if (!strncmp(line, "rar ", 4) && rar_count < MAX_RARS)
+        if (!strncmp(line, "rar ", 4) && rar_count < MAX_RARS)
             strcpy(rar_texts[rar_count++], line + 4);
+        else
+            keep_answer(line);
     }
     fclose(file);
     return 0;
@@ -242,6 +495,19 @@ static int want_no_more(const char *command_name, const char *avp_name)
     return fd_dict_delete(rule);
 }
 
+/* The argument: the path of the rules, and where there are these, of the FIFO and of the file for what is heard. */
+static int begin(const char *words)
+{
+    char rules[256], heard_path[256];
+    pthread_t thread;
+    int count = words ? sscanf(words, "%255s %255s %255s", rules, commands_path, heard_path) : 0;
+    CHECK_FCT(read_rules(count > 0 ? rules : NULL));
+    if (count < 3)
+        return 0;
+    heard = open(heard_path, O_WRONLY | O_CREAT | O_APPEND, 0600);
+    return heard < 0 ? errno : pthread_create(&thread, NULL, obey, NULL);
+}
+
 /* dict_dcca_3gpp has the AVPs of Gx, and not its application; its commands are those of the base and of credit
  * control. */
 static int start(char *rules)
@@ -251,7 +517,7 @@ static int start(char *rules)
     struct dict_application_data named = {GX, "3GPP Gx"};
     struct dict_object *vendor, *application;
     struct disp_when when;
-    CHECK_FCT(read_rules(rules));
+    CHECK_FCT(begin(rules));
     CHECK_FCT(fd_dict_search(DICTIONARY, DICT_VENDOR, VENDOR_BY_ID, &vendor_id, &vendor, ENOENT));
     if (fd_dict_search(DICTIONARY, DICT_APPLICATION, APPLICATION_BY_ID, &application_id, &application, ENOENT))
         CHECK_FCT(fd_dict_new(DICTIONARY, DICT_APPLICATION, &named, vendor, &application));
