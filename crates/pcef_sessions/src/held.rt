@@ -93,9 +93,10 @@ impl Held {
         ensures lacks { OnErr result ((self.new.session ≡ self.old.session)
             ⊎ (self.new.session ≡ renewed self.old.session)) }
     {
-        self.world.forget();
+        let world = &mut self.world;
+        world.forget();
         Ok(LineAnswer {
-            text: answer_renew(alloc, &mut self.world, &*self.catalog).text?,
+            text: answer_renew(alloc, world, &*self.catalog).text?,
             is_fault: false,
         })
     }
