@@ -1,9 +1,10 @@
 //! A session is renewed in its place, and the answer to that.
 
-ghost use Rattle.std.specs.Prelude.{◌≡◌, IfOk, OnErr, OnOk, length, string_bytes, true};
+ghost use Rattle.std.specs.Prelude.{◌≡◌, ◌≢◌, IfOk, OnErr, OnOk, length, string_bytes, true};
 ghost use Rattle.std.specs.Bool.{OnTrue};
 ghost use Rattle.pcef_model.specs.Journals.{attach_count};
 ghost use Rattle.pcef_answer.specs.RefusalAnswers.{refusal_text};
+ghost use Rattle.pcef_renewal.specs.declared.renewing.RenewRefusal.TheVariants as refusal;
 ghost use Rattle.pcef_renewal_answer.specs.Texts.{reason_of};
 ghost use Rattle.pcef_renewal_answer.specs.Renewed.{AnswersRenew, GoesOnLike, IsRenewedOrNot, LacksForRenew, renews};
 ghost use Rattle.pcef_renewal_answer.specs.private.Pieces.{pieces_of, reports_text};
@@ -28,14 +29,19 @@ fn reason_of(reason: RenewRefusal) -> Refusal
     }
 }
 
+/// The answer to a renewal that was refused, but for want of memory.
 #[tactic(auto, unfolding(pcef_answer::specs::StepAnswers::command_text))]
 fn refused_text(
     alloc: Global,
     world: &WorldState,
     reason: RenewRefusal,
 ) -> Result<String, AllocError>
-    ensures { IfOk result (λ text. string_bytes text ≡ refusal_text (reason_of reason)) }
+    ensures text { IfOk result (λ text. string_bytes text ≡ refusal_text (reason_of reason)) }
+    ensures told { OnOk result (reason ≢ refusal.NoMemory) }
 {
+    if reason == RenewRefusal::NoMemory {
+        return Err(AllocError);
+    }
     let refused = Err(reason_of(reason));
     command_answer(alloc, world.session().journal(), &refused)
 }
@@ -107,10 +113,6 @@ pub fn answer_renew<C: Detects>(alloc: Global, world: &mut WorldState, catalog: 
     let _journal = world.session().journal();
     match renew_world(alloc, world, catalog) {
         Ok(renewed) => take_over(alloc, world, renewed),
-        Err(RenewRefusal::NoMemory) => RenewAnswer {
-            renewed: false,
-            text: Err(AllocError),
-        },
         Err(reason) => RenewAnswer {
             renewed: false,
             text: refused_text(alloc, world, reason),

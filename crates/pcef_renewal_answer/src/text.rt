@@ -11,11 +11,17 @@ use pcef_renewal::BearerNumbers;
 use pcef_rule::BearerId;
 use std::alloc::{AllocError, Global};
 
+fn push_number(text: &mut String, number: u8) -> Result<(), AllocError>
+    ensures { OnOk result (GoesOn text.old text.new (decimal number)) }
+{
+    text.push_str(Buffer::new().format(number))
+}
+
 fn push_bearer(text: &mut String, front: &str, bearer: BearerId) -> Result<(), AllocError>
     ensures { OnOk result (GoesOn text.old text.new (front.now ++ decimal bearer.0)) }
 {
     text.push_str(front)?;
-    text.push_str(Buffer::new().format(bearer.0))
+    push_number(text, bearer.0)
 }
 
 fn push_pair(text: &mut String, pair: &BearerNumbers) -> Result<(), AllocError>
