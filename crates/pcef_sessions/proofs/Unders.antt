@@ -1,5 +1,5 @@
 -- From the steps to an answer to what stands under a name.
-use Rattle.std.proofs.Common.{◌≡◌, ◌≢◌, ◌∙◌, ℕ, Bool, true, false, List, Option, Some, None, inl, inr, refl, sym, ap, subst, string_bytes}
+use Rattle.std.proofs.Common.{◌≡◌, ◌≢◌, ◌⊎◌, ◌∙◌, ℕ, Bool, true, false, List, Option, Some, None, inl, inr, refl, sym, ap, subst, string_bytes}
 use Rattle.pcef_model.specs.Setting.{Setting}
 use Rattle.pcef_world.specs.Steps.{Standing}
 use Rattle.pcef_script.specs.declared.step.LineAnswer.{LineAnswer}
@@ -7,8 +7,10 @@ use Rattle.pcef_script.specs.ScriptAnswers.{AnswersLine}
 use Rattle.pcef_sessions.specs.declared.asking.Asking.{Asking}
 use Rattle.pcef_sessions.specs.declared.asking.Asking.TheVariants as asking
 use Rattle.pcef_sessions.specs.Asked.{asked_of}
-use Rattle.pcef_sessions.specs.Under.{Session, InSession, LacksUnder, UnderBy, UnderName, WithoutSession, renewal_text}
-use Rattle.pcef_sessions.specs.private.Steps.{AskLacks, AsksOf, InsteadOf, RunLacks, Runs}
+use Rattle.pcef_sessions.specs.Under.{Session, InSession, LacksUnder, UnderBy, UnderName, WithoutSession, renewal_text, renewed}
+use Rattle.pcef_sessions.specs.declared.sessions.Sessions.{Sessions}
+use Rattle.pcef_sessions.specs.Standing.{held}
+use Rattle.pcef_sessions.specs.private.Steps.{AllStay, AskLacks, AsksOf, InsteadOf, LacksAsked, OthersStay, RunLacks, Runs}
 use Rattle.pcef_sessions.proofs.Asks.{fault_stays, is_of_script}
 
 -- no session is there
@@ -90,3 +92,13 @@ instead_lacks p None between after line script runs wrong lacks = absurd runs
 instead_lacks p (Some s) between after line script runs wrong lacks =
     let same : between ≡ Some s = runs.2 ∙ ap (λ (t : Standing). Some (record s { standing = t })) (fault_stays s.setting s.standing runs.0 line (string_bytes script.text) script.is_fault runs.1 wrong) in
     ask_lacks p (Some s) after (asked_of line) line refl (subst (λ o. AskLacks o (asked_of line) after) same lacks)
+
+-- nothing changed
+pub stays_asked : (old new : Sessions) (name : List ℕ) (asks : Asking) → AllStay old new → LacksAsked old name asks new
+stays_asked old new name asks stay = (inl (stay name), λ other differs. stay other)
+
+-- ---- a session is renewed
+pub held_after : (old new : Sessions) (name : List ℕ) (s : Session) → held old name ≡ Some s → (held new name ≡ held old name) ⊎ (held new name ≡ Some (renewed s)) → OthersStay old name new
+    → LacksAsked old name asking.Renew new
+held_after old new name s there (inl same) others = (inl same, others)
+held_after old new name s there (inr is) others = (inr (s, there, refl, is), others)
