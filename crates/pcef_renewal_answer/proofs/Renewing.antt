@@ -1,6 +1,8 @@
 -- What a renewal leaves, and what it answers.
-use Rattle.std.proofs.Common.{◌≡◌, ◌≢◌, ◌∙◌, ℕ, List, [], ◌∷◌, Option, Some, None, Ok, length, refl, sym, ap, subst, inl, inr}
-use Rattle.std.specs.Prelude.{drop, is_none, false, true}
+use Rattle.std.proofs.Common.{◌≡◌, ◌≢◌, ◌∙◌, ℕ, List, [], ◌∷◌, Option, Some, None, Result, Ok, Err, IfOk, OnOk, length, refl, sym, ap, inl, inr, string_bytes}
+use Rattle.std.specs.Prelude.{OnErr, String, false, true}
+use Rattle.std.specs.declared.alloc.AllocError.{AllocError}
+use Rattle.std.specs.declared.alloc.Global.{Global}
 use Rattle.json.specs.Print.{escape_byte}
 use Rattle.pcef_model.specs.declared.answer.Accepted.{Accepted}
 use Rattle.pcef_model.specs.declared.answer.Refusal.{Refusal}
@@ -8,12 +10,11 @@ use Rattle.pcef_model.specs.declared.command.Command.TheVariants.{Terminate}
 use Rattle.pcef_model.specs.Entries.{Journal}
 use Rattle.pcef_model.specs.Journals.{attach_count}
 use Rattle.pcef_model.specs.Lawful.{Lawful}
-use Rattle.pcef_model.specs.Outcomes.{Gives, IsFirstFault, command_outcome, command_outcome_by}
+use Rattle.pcef_model.specs.Outcomes.{Gives, command_outcome, command_outcome_by}
 use Rattle.pcef_model.specs.Refusals.{first_of, refusals}
 use Rattle.pcef_model.specs.Reports.{after_command}
 use Rattle.pcef_model.specs.Setting.{Setting}
-use Rattle.pcef_session.specs.SessionModel.{SessionModel}
-use Rattle.pcef_world.specs.Steps.{Standing, standing_of}
+use Rattle.pcef_world.specs.Steps.{standing_of}
 use Rattle.pcef_world.specs.Worlds.{Waiting, World}
 use Rattle.pcef_answer.specs.RefusalAnswers.{refusal_text}
 use Rattle.pcef_renewal.specs.declared.places.BearerNumbers.{BearerNumbers}
@@ -22,7 +23,7 @@ use Rattle.pcef_renewal.specs.declared.renewing.RenewRefusal.TheVariants as refu
 use Rattle.pcef_renewal.specs.Maps.{bearers_again}
 use Rattle.pcef_renewal.specs.Renewing.{IsRenewed, RefusesRenewal, Renews, renew_refusals}
 use Rattle.pcef_renewal.proofs.Anew.{begins_anew}
-use Rattle.pcef_renewal_answer.specs.Renewed.{AnswersRenew, Kept, kept_of, renew_outcome, renewed, renews}
+use Rattle.pcef_renewal_answer.specs.Renewed.{AnswersRenew, LacksForRenew, kept_of, renew_outcome, renewed, renews}
 use Rattle.pcef_renewal_answer.specs.Texts.{reason_of}
 use Rattle.pcef_renewal_answer.specs.private.Pieces.{pieces_of, reports_text}
 
@@ -58,6 +59,15 @@ renewed_answer old ended new a pairs text lawful none gives forgotten paired kep
     let journal = ended_by old.session.setting old.session.journal ended.session.journal a gives in
     rw none (rw (kept, told, paired, forgotten, journal) refl)
 
+pub on_err : {A E : Type 0} (r : Result A E) (P : Type 0) → P → OnErr r P
+on_err (Ok x) P p = tt
+on_err (Err e) P p = p
+
+-- its answer alone may be lacking
+pub renewed_lacks : (old new : World) → Renews old.session → kept_of new ≡ renewed old.session.setting old.session.journal → LacksForRenew old new
+unfolding renew_outcome
+renewed_lacks old new none kept = inr (rw none kept)
+
 -- ---- it was refused
 pub refused_for : (old : World) (reason : RenewRefusal) → RefusesRenewal old.session reason → reason ≢ refusal.NoMemory
     → first_of (renew_refusals old.session.setting old.session.journal) ≡ Some reason
@@ -77,3 +87,8 @@ is_renewed old none = rw none refl
 
 pub kept_same : (old new : World) → standing_of new ≡ standing_of old → new.session.forgotten ≡ old.session.forgotten → kept_of new ≡ kept_of old
 kept_same old new standing forgotten = rw (standing, forgotten) refl
+
+pub refused_told : (r : Result (String Global) AllocError) (old new : World) (reason : RenewRefusal) → RefusesRenewal old.session reason → kept_of new ≡ kept_of old
+    → IfOk r (λ t. string_bytes t ≡ refusal_text (reason_of reason)) → OnOk r (reason ≢ refusal.NoMemory) → IfOk r (λ t. AnswersRenew old (string_bytes t) new)
+refused_told (Ok t) old new reason refuses kept told other = refused_answer old new reason (string_bytes t) refuses other kept told
+refused_told (Err e) old new reason refuses kept told other = tt
