@@ -35,7 +35,7 @@ renewed_script p s first lines saids after renews all h =
       rest.0,
       rest.1,
       ap texts_of h.5 ∙ ap (λ t. (t ++ 10 ∷ []) ++ texts_of h.1) now.0,
-      ap faults_of h.5 ∙ ap (λ n. n + faults_of h.1) right,
+      ap faults_of h.5 ∙ omega (arith, right),
       rest.2,
     )
 

@@ -1,5 +1,5 @@
 -- From the steps to an answer to what stands under a name.
-use Rattle.std.proofs.Common.{◌≡◌, ◌≢◌, ◌⊎◌, ◌∙◌, ℕ, Bool, true, false, List, Option, Some, None, inl, inr, refl, sym, ap, subst, string_bytes}
+use Rattle.std.proofs.Common.{◌≡◌, ◌≢◌, ◌∙◌, ℕ, Bool, true, false, List, Option, Some, None, inl, inr, refl, sym, ap, subst, string_bytes}
 use Rattle.pcef_model.specs.Setting.{Setting}
 use Rattle.pcef_world.specs.Steps.{Standing}
 use Rattle.pcef_script.specs.declared.step.LineAnswer.{LineAnswer}
@@ -7,10 +7,8 @@ use Rattle.pcef_script.specs.ScriptAnswers.{AnswersLine}
 use Rattle.pcef_sessions.specs.declared.asking.Asking.{Asking}
 use Rattle.pcef_sessions.specs.declared.asking.Asking.TheVariants as asking
 use Rattle.pcef_sessions.specs.Asked.{asked_of}
-use Rattle.pcef_sessions.specs.Under.{Session, InSession, LacksUnder, UnderBy, UnderName, WithoutSession, renewal_text, renewed}
-use Rattle.pcef_sessions.specs.declared.sessions.Sessions.{Sessions}
-use Rattle.pcef_sessions.specs.Standing.{held}
-use Rattle.pcef_sessions.specs.private.Steps.{AllStay, AskLacks, AsksOf, InsteadOf, LacksAsked, OthersStay, RunLacks, Runs}
+use Rattle.pcef_sessions.specs.Under.{Session, InSession, LacksUnder, UnderBy, UnderName, WithoutSession, renewal_text}
+use Rattle.pcef_sessions.specs.private.Steps.{AskLacks, AsksOf, InsteadOf, RunLacks, Runs}
 use Rattle.pcef_sessions.proofs.Asks.{fault_stays, is_of_script}
 
 -- no session is there
@@ -79,12 +77,6 @@ ask_lacks p there after asks line is (inr (s, there_is, renews, after_is)) =
     subst (λ k. UnderBy p (Some s) k line (renewal_text s) false after) (sym renews ∙ is) answer in
     inr (record { text = renewal_text s; at_fault = false; answer = subst (λ o. UnderName p o line (renewal_text s) false after) (sym there_is) asked })
 
--- where no session is there
-pub none_lacks : (p : Setting) (there between after : Option Session) (asks : Asking) (line : List ℕ) → Runs there line None between → asks ≡ asked_of line
-    → AskLacks between asks after → LacksUnder p there line after
-none_lacks p None between after asks line none is lacks = ask_lacks p None after asks line is (subst (λ o. AskLacks o asks after) none lacks)
-none_lacks p (Some s) between after asks line none is lacks = absurd none
-
 -- where a session answered with a fault
 pub instead_lacks : (p : Setting) (there between after : Option Session) (line : List ℕ) (script : LineAnswer) → Runs there line (Some script) between → script.is_fault ≡ true
     → AskLacks between (asked_of line) after → LacksUnder p there line after
@@ -92,13 +84,3 @@ instead_lacks p None between after line script runs wrong lacks = absurd runs
 instead_lacks p (Some s) between after line script runs wrong lacks =
     let same : between ≡ Some s = runs.2 ∙ ap (λ (t : Standing). Some (record s { standing = t })) (fault_stays s.setting s.standing runs.0 line (string_bytes script.text) script.is_fault runs.1 wrong) in
     ask_lacks p (Some s) after (asked_of line) line refl (subst (λ o. AskLacks o (asked_of line) after) same lacks)
-
--- nothing changed
-pub stays_asked : (old new : Sessions) (name : List ℕ) (asks : Asking) → AllStay old new → LacksAsked old name asks new
-stays_asked old new name asks stay = (inl (stay name), λ other differs. stay other)
-
--- ---- a session is renewed
-pub held_after : (old new : Sessions) (name : List ℕ) (s : Session) → held old name ≡ Some s → (held new name ≡ held old name) ⊎ (held new name ≡ Some (renewed s)) → OthersStay old name new
-    → LacksAsked old name asking.Renew new
-held_after old new name s there (inl same) others = (inl same, others)
-held_after old new name s there (inr is) others = (inr (s, there, refl, is), others)
