@@ -97,6 +97,19 @@ size_t pcef_reports(pcef_session *at, uint64_t first, uint8_t *answer, size_t an
  * PCEF_NO_SESSION. */
 size_t pcef_forget(pcef_session *at);
 
+/* Renews the session, and returns the length of the answer, of which as much as fits is written: the session ends as by a
+ * line `terminate`, and in its place stands a new one of the same profile, which has taken commands that make it go on:
+ * the same rules are active, the same keys on, with the rest of their grants, and the same events subscribed. So a
+ * session goes on beyond the rows, commands, keys and workers of one life. Let each worker finish before, and attach
+ * again: the new session has the handle's next number (pcef_number). The answer, as of pcef_many (docs/FORMATS.md, 'Many
+ * sessions'), has each bearer's old and new number beside 5, and all reports that weren't forgotten, those of the end
+ * last: read them here, for no other call has them any more. Where the others were forgotten, 4,096 octets are ample. Or
+ * it says why the session isn't renewed, and then nothing changes: it was terminated, workers are attached, or the new
+ * session would take no command. Report numbers begin at 0 again, and generations at those of the commands. Takes
+ * memory. PCEF_NO_SESSION: nothing is done. PCEF_NO_MEMORY: nothing is written, and the session is as before, or it is
+ * renewed and its reports are lost; pcef_rows_left tells which, where rows were handed over. */
+size_t pcef_renew(pcef_session *at, uint8_t *answer, size_t answer_room);
+
 /* In place of a length or a count. */
 #define PCEF_NO_SESSION SIZE_MAX
 #define PCEF_NO_MEMORY (SIZE_MAX - 1)
@@ -156,7 +169,7 @@ static inline pcef_verdict pcef_judge_one(pcef_session *at, uint8_t up, const ui
     return pcef_judge_front(at, up, octets, length, length);
 }
 
-/* How many more rows the session takes: those that its profile allows, less those that were handed over. Open the next
+/* How many more rows the session takes: those that its profile allows, less those that were handed over. Renew the
  * session before a flush is refused. UINT64_MAX: there is no session. Takes no memory. */
 uint64_t pcef_rows_left(pcef_session *at);
 

@@ -1,5 +1,5 @@
 /* What pcef_take answers to vectors of packets, and what is left of each call of a worker, and of lines of many kinds,
- * where memory is refused: each allocation in turn, until the call is done. Built with
+ * and of a renewal, where memory is refused: each allocation in turn, until the call is done. Built with
  * -Wl,--wrap=malloc,--wrap=realloc. Prints what it looked at.
  *     refusals PROFILE.toml */
 #include "pcef.h"
@@ -53,8 +53,14 @@ static void *room(size_t size) {
     return at;
 }
 
+/* Does a line, or renews the session. */
+static size_t ask(const char *text, char answer[ROOM]) {
+    if (strcmp(text, "renew") == 0) return pcef_renew(session, (uint8_t *)answer, ROOM - 1);
+    return pcef_line(session, (const uint8_t *)text, strlen(text), (uint8_t *)answer, ROOM - 1);
+}
+
 static void line(const char *text, char answer[ROOM]) {
-    size_t length = pcef_line(session, (const uint8_t *)text, strlen(text), (uint8_t *)answer, ROOM - 1);
+    size_t length = ask(text, answer);
     if (length >= ROOM) exit(4);
     answer[length] = 0;
 }
@@ -184,6 +190,8 @@ static const char FLUSH[] = "{\"do\":\"flush\",\"worker\":0}";
 static const char FINISH[] = "{\"do\":\"finish\",\"worker\":0}";
 static const char NOTICE[] = "{\"do\":\"notice\",\"event\":\"RAT_CHANGE\",\"value\":\"eutran\"}";
 static const char OTHER_KEY[] = "{\"do\":\"monitor\",\"key\":\"other\",\"grant\":9}";
+static const char RENEW[] = "renew"; /* no line: pcef_renew */
+static const char REMOVE_VOICE[] = "{\"do\":\"remove\",\"name\":\"voice\"}";
 static const char REMOVE[] = "{\"do\":\"remove\",\"name\":\"web\"}";
 static const char SHOW[] = "{\"do\":\"show\"}";
 static const char SUBSCRIBE[] = "{\"do\":\"triggers\",\"events\":[\"RAT_CHANGE\"]}";
@@ -208,6 +216,7 @@ static const struct {
     {{ATTACH, TAKE}, FINISH, FINISH},
     {{SUBSCRIBE}, NOTICE, NOTICE},
     {{NULL}, CLOSE, CLOSE},
+    {{VOICE, REMOVE_VOICE}, RENEW, SHOW},
 };
 
 static void begin_anew(size_t asked) {
@@ -237,7 +246,7 @@ static void refuse_line(size_t asked, long counts[2]) {
         char written[ROOM] = {0};
         begin_anew(asked);
         left = granted;
-        size_t length = pcef_line(session, (const uint8_t *)text, strlen(text), (uint8_t *)written, ROOM - 1);
+        size_t length = ask(text, written);
         was_refused = left < 0;
         left = -1;
         int lacked = length == PCEF_NO_MEMORY;

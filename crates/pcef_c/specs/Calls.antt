@@ -2,6 +2,7 @@
 use Rattle.std.specs.Prelude.{ℕ, ◌≡◌, List, None, Result, is_some}
 use Rattle.pcef_handle.specs.Answering.{AnswersHandle}
 use Rattle.pcef_handle.specs.Opening.{OpensHandle}
+use Rattle.pcef_handle.specs.Renewing.{RenewsHandle}
 use Rattle.pcef_handle.specs.Reporting.{ForgetsHandle, ReportsHandle}
 use Rattle.pcef_handle.specs.declared.held.Handle.{Handle}
 use Rattle.pcef_handle.specs.declared.line.CallRefusal.{CallRefusal}
@@ -21,6 +22,10 @@ LineReturns old line before new after number =
 abbrev pub ReportsReturn : Handle → ℕ → List ℕ → Handle → List ℕ → ℕ → Type 0
 ReportsReturn old first before new after number =
     (new ≡ old) × (r : Result ℕ CallRefusal) × ReportsHandle old first before r after × (number ≡ length_number r)
+
+-- the session is renewed, or there is a reason why it isn't, in an answer or by a number
+abbrev pub RenewReturns : Handle → List ℕ → Handle → List ℕ → ℕ → Type 0
+RenewReturns old before new after number = (r : Result ℕ CallRefusal) × RenewsHandle old before r new after × (number ≡ length_number r)
 
 -- the reports so far are forgotten, or there is no session
 abbrev pub ForgetReturns : Handle → Handle → ℕ → Type 0

@@ -1,6 +1,6 @@
 //! The calls of C behind their pointers: each is a call on a handle, with its answer as a number.
 
-ghost use Rattle.pcef_c.specs.Calls.{Closes, ForgetReturns, LineReturns, NumberReturns, OpenReturns, ReportsReturn};
+ghost use Rattle.pcef_c.specs.Calls.{Closes, ForgetReturns, LineReturns, NumberReturns, OpenReturns, RenewReturns, ReportsReturn};
 ghost use Rattle.pcef_c.specs.Handles.{IsEmpty};
 ghost use Rattle.pcef_c.specs.Judging.{JudgesAll};
 
@@ -58,6 +58,14 @@ pub(crate) fn reports(handle: &mut Handle, first: u64, answer: &mut [u8]) -> usi
     ensures { ReportsReturn handle.old first answer.old handle.new answer.new result }
 {
     let outcome = handle.reports(first, answer);
+    length_number(outcome)
+}
+
+/// Renews the session. Returns the answer's length, or why there is none.
+pub(crate) fn renew(handle: &mut Handle, answer: &mut [u8]) -> usize
+    ensures { RenewReturns handle.old answer.old handle.new answer.new result }
+{
+    let outcome = handle.renew(answer);
     length_number(outcome)
 }
 

@@ -4,11 +4,11 @@
 ghost use Rattle.std.specs.Prelude.{◌≡◌};
 ghost use Rattle.std.specs.Borrow.{sem};
 ghost use Rattle.pcef_handle.specs.declared.held.Handle.{Handle};
-ghost use Rattle.pcef_c.specs.Calls.{Closes, ForgetReturns, LineReturns, NumberReturns, OpenReturns, ReportsReturn};
+ghost use Rattle.pcef_c.specs.Calls.{Closes, ForgetReturns, LineReturns, NumberReturns, OpenReturns, RenewReturns, ReportsReturn};
 ghost use Rattle.pcef_c.specs.Handles.{IsEmpty, handle_size, lies, room};
 ghost use Rattle.pcef_c.specs.Judging.{JudgesAll};
 
-use crate::calls::{close, empty, forget, judge, line, number, open, reports};
+use crate::calls::{close, empty, forget, judge, line, number, open, renew, reports};
 use crate::judging::{CPacket, CVerdict};
 use pcef_handle::Handle;
 use std::alloc::Global;
@@ -114,6 +114,18 @@ pub unsafe extern "C" fn pcef_forget(at: *mut u8) -> usize
     ensures* { ∃ₛ (λ (new : Handle). sem 𝓛 (lies at new) ∗ ⌜ ForgetReturns old new result ⌝) }
 {
     forget(&mut *(at as *mut Handle))
+}
+
+/// Renews the session in its place, and writes the answer as far as it fits. Returns the answer's length in octets, or
+/// why there is none: no session, or no memory. Takes memory for the new session and for the answer.
+#[unsafe(no_mangle)]
+pub unsafe extern "C" fn pcef_renew(at: *mut u8, answer: &mut [u8]) -> usize
+    ghost old: { Handle }
+    requires* { sem 𝓛 (lies at old) }
+    ensures* { ∃ₛ (λ (new : Handle). sem 𝓛 (lies at new)
+        ∗ ⌜ RenewReturns old answer.old new answer.new result ⌝) }
+{
+    renew(&mut *(at as *mut Handle), answer)
 }
 
 /// Closes the session, if there is one, and frees all its memory but the handle's own. Returns 1, or 0 where there was

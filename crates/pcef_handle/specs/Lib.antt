@@ -5,5 +5,6 @@ pub mod Counts
 pub mod Judging
 pub mod Naming
 pub mod Opening
+pub mod Renewing
 pub mod Reporting
 pub mod Working

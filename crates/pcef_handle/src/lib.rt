@@ -3,7 +3,7 @@
 //!
 //! Its contracts say: what each call does to the session, and what is written to a buffer.
 //!
-//! In the order of reading: `held`, `judging`, `opening`, `text`, `line`, `reporting`, `attached`, `worker`,
+//! In the order of reading: `held`, `judging`, `opening`, `text`, `line`, `reporting`, `renewing`, `attached`, `worker`,
 //! `counts`, `bearers`, `naming`.
 #![tactic(auto)]
 
@@ -15,6 +15,7 @@ mod judging;
 mod line;
 mod naming;
 mod opening;
+mod renewing;
 mod reporting;
 mod text;
 mod worker;

@@ -56,7 +56,7 @@ fn command<'a>(alloc: Global) -> Result<Command<'a>, AllocError> {
     Command::new(alloc, "pcef_many")
         .version("0.1")
         .about(
-            "Answers lines of many sessions, each behind its session's name: opens one by {\"do\":\"open\"} and ends it by {\"do\":\"end\"}",
+            "Answers lines of many sessions, each behind its session's name: opens one by {\"do\":\"open\"}, renews it by {\"do\":\"renew\"} and ends it by {\"do\":\"end\"}",
         )
         .arg(threads_argument(alloc))?
         .arg(metrics_argument(alloc))?

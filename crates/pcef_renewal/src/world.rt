@@ -3,6 +3,7 @@
 ghost use Rattle.std.specs.Prelude.{◌≡◌, IfErr, IfOk, OnErr, OnOk};
 ghost use Rattle.pcef_model.specs.declared.command.Command.TheVariants as of;
 ghost use Rattle.pcef_session.specs.Answers.{DoesCommand};
+ghost use Rattle.pcef_world.specs.Steps.{standing_of};
 ghost use Rattle.pcef_world.specs.Worlds.{IsOpenedWorld};
 ghost use Rattle.pcef_renewal.specs.Accepting.{AreTaken, entered};
 ghost use Rattle.pcef_renewal.specs.Likeness.{Like};
@@ -119,7 +120,7 @@ pub fn renew_world<C: Detects>(
     requires { C.offers catalog.now ≡ world.old.session.setting.catalog }
     ensures refused { IfErr result (RefusesRenewal world.old.session) }
     ensures accepted { OnOk result (Renews world.old.session) }
-    ensures unchanged { OnErr result (world.new.session.journal ≡ world.old.session.journal) }
+    ensures unchanged { OnErr result (standing_of world.new ≡ standing_of world.old) }
     ensures ended { IfOk result
         (λ r. DoesCommand world.old.session of.Terminate r.ended world.new.session) }
     ensures renewed { IfOk result (λ r. IsRenewed world.old.session r.world.session) }

@@ -1,4 +1,4 @@
--- What a line asks of the sessions: to open one, to end one, or neither (own choice; JSON: RFC 8259).
+-- What a line asks of the sessions: to open one, to renew one, to end one, or none of these (own choice; JSON: RFC 8259).
 use Rattle.std.specs.Prelude.{ℕ, ◌&&◌, ◌||◌, List, codes, Bool, true, false, Option, Some, None, option_and_then, if◌then◌else◌}
 use Rattle.std.specs.Str.{bytes_eq, is_utf8}
 use Rattle.serde_json.specs.Data.{Data, Members, no_members, member}
@@ -9,15 +9,15 @@ use Rattle.pcef_packet.specs.AddressTexts.{address_of}
 use Rattle.pcef_lists.specs.Readings.{if_there}
 use Rattle.pcef_script.specs.ScriptLines.{within_limit}
 use Rattle.pcef_sessions.specs.declared.asking.Asking.{Asking}
-use Rattle.pcef_sessions.specs.declared.asking.Asking.TheVariants.{Open, End, Fault, Script}
+use Rattle.pcef_sessions.specs.declared.asking.Asking.TheVariants.{Open, Renew, End, Fault, Script}
 use Rattle.pcef_sessions.specs.declared.asking.AskingFault.TheVariants.{UnknownField, BadUe}
 
--- the fields that the two words have
+-- the fields that a word may have: `open` has one beside `do`, the others have none
 abbrev pub is_open_field : List ℕ → Bool
 is_open_field key = bytes_eq key (codes "do") || bytes_eq key (codes "ue")
 
-abbrev pub is_end_field : List ℕ → Bool
-is_end_field key = bytes_eq key (codes "do")
+abbrev pub is_do_field : List ℕ → Bool
+is_do_field key = bytes_eq key (codes "do")
 
 abbrev pub each_key : (List ℕ → Bool) → Members → Bool
 each_key test no_members = true
@@ -38,15 +38,16 @@ open_with (Some d) = opens_at (option_and_then address_of (as_str d))
 unfoldable pub open_at : Data → Asking
 open_at d = if has_only is_open_field d then open_with (get (codes "ue") d) else Fault UnknownField
 
-unfoldable pub end_at : Data → Asking
-end_at d = if has_only is_end_field d then End else Fault UnknownField
+unfoldable pub alone_at : Asking → Data → Asking
+alone_at asking d = if has_only is_do_field d then asking else Fault UnknownField
 
 -- by the word of the line
 abbrev pub by_word : Option (List ℕ) → Data → Asking
 by_word None d = Script
 by_word (Some word) d =
     if bytes_eq word (codes "open") then open_at d
-    else if bytes_eq word (codes "end") then end_at d
+    else if bytes_eq word (codes "renew") then alone_at Renew d
+    else if bytes_eq word (codes "end") then alone_at End d
     else Script
 
 unfoldable pub asked_at : Data → Asking

@@ -2,9 +2,11 @@
 use Rattle.std.specs.Prelude.{ℕ, ◌≡◌, List, [], ◌∷◌, codes, Bool, true, false, Option, Some, None}
 use Rattle.pcef_packet.specs.declared.header.Addr.{Addr}
 use Rattle.pcef_model.specs.Setting.{Setting}
+use Rattle.pcef_model.specs.Journals.{report_count}
 use Rattle.pcef_world.specs.Steps.{Standing, at_start}
 use Rattle.pcef_line.specs.declared.fault.LineFault.TheVariants as line
 use Rattle.pcef_answer.specs.FaultAnswers.{fault_text}
+use Rattle.pcef_renewal_answer.specs.Renewed.{Kept, renew_outcome}
 use Rattle.pcef_script.specs.ScriptAnswers.{AnswersLine, IsDoneOrNot}
 use Rattle.pcef_sessions.specs.declared.asking.Asking.{Asking}
 use Rattle.pcef_sessions.specs.declared.asking.Asking.TheVariants as asking
@@ -29,6 +31,19 @@ with_address (Some ue) p = record p { ue = ue }
 
 abbrev pub opened : Setting → Session
 opened p = record { setting = p; standing = at_start }
+
+-- ---- a renewal
+-- each report before the line was written, and is forgotten
+abbrev pub written : Standing → Kept
+written s = record { standing = s; forgotten = report_count s.journal }
+
+-- the answer to a renewal
+abbrev pub renewal_text : Session → List ℕ
+renewal_text s = (renew_outcome s.setting (written s.standing)).0
+
+-- what stands in the place of a session from its renewal on: the new session, or itself where it isn't renewed
+abbrev pub renewed : Session → Session
+renewed s = record s { standing = (renew_outcome s.setting (written s.standing)).1.standing }
 
 -- ---- texts
 abbrev pub done_text : List ℕ
@@ -58,13 +73,16 @@ Says due is_fault next text at_fault after = (text ≡ due) × (at_fault ≡ is_
 -- where no session is open, one may be opened, and nothing else is done
 abbrev pub WithoutSession : Setting → Asking → List ℕ → Bool → Option Session → Type 0
 WithoutSession p (asking.Open ue) text at_fault after = Says done_text false (Some (opened (with_address ue p))) text at_fault after
+WithoutSession p asking.Renew text at_fault after = Says no_session_text false None text at_fault after
 WithoutSession p asking.End text at_fault after = Says no_session_text false None text at_fault after
 WithoutSession p (asking.Fault why) text at_fault after = Says (asking_fault_text why) true None text at_fault after
 WithoutSession p asking.Script text at_fault after = Says no_session_text false None text at_fault after
 
--- a session that is open answers a line of a script as the script does, and goes on; `end` takes it away
+-- a session that is open answers a line of a script as the script does, and goes on; `renew` puts a new one in its place, and
+-- `end` takes it away
 abbrev pub InSession : Session → Asking → List ℕ → List ℕ → Bool → Option Session → Type 0
 InSession s (asking.Open ue) line text at_fault after = Says is_open_text false (Some s) text at_fault after
+InSession s asking.Renew line text at_fault after = Says (renewal_text s) false (Some (renewed s)) text at_fault after
 InSession s asking.End line text at_fault after = Says done_text false None text at_fault after
 InSession s (asking.Fault why) line text at_fault after = Says (asking_fault_text why) true (Some s) text at_fault after
 InSession s asking.Script line text at_fault after =

@@ -3,7 +3,7 @@
 ghost use Rattle.std.specs.Prelude.{◌≡◌, IfOk, codes};
 ghost use Rattle.serde_json.specs.Find.{get};
 ghost use Rattle.serde_json.specs.View.{members_view, view};
-ghost use Rattle.pcef_sessions.specs.Asked.{asked_at, asked_of, asked_text, each_key, end_at, has_only, is_end_field, is_open_field, open_at, open_with};
+ghost use Rattle.pcef_sessions.specs.Asked.{alone_at, asked_at, asked_of, asked_text, each_key, has_only, is_do_field, is_open_field, open_at, open_with};
 
 use pcef_packet::Addr;
 use pcef_script::MAX_LINE;
@@ -12,7 +12,7 @@ use std::alloc::{AllocError, Global};
 use std::str;
 use thiserror::Error;
 
-/// Why a line that opens a session or ends one isn't right.
+/// Why a line that opens a session, renews one or ends one isn't right.
 #[derive(Clone, Copy, Debug, PartialEq, Eq, Error)]
 pub enum AskingFault {
     /// It has a field that the word doesn't have.
@@ -28,11 +28,13 @@ pub enum AskingFault {
 pub enum Asking {
     /// To open the session, with this address in the place of the profile's, where there is one.
     Open(Option<Addr>),
+    /// To renew the session.
+    Renew,
     /// To end the session.
     End,
-    /// One of these two, in a line at fault.
+    /// One of these three, in a line at fault.
     Fault(AskingFault),
-    /// Neither: the line is one of a script.
+    /// None of them: the line is one of a script.
     Script,
 }
 
@@ -42,8 +44,8 @@ fn is_open_field(key: &str) -> bool
     key == "do" || key == "ue"
 }
 
-fn is_end_field(key: &str) -> bool
-    ensures { result ≡ is_end_field key.now }
+fn is_do_field(key: &str) -> bool
+    ensures { result ≡ is_do_field key.now }
 {
     key == "do"
 }
@@ -54,10 +56,10 @@ fn are_of_open(members: &Map<String, Value>) -> bool
     members.keys().all(|key| is_open_field(key.as_str()))
 }
 
-fn are_of_end(members: &Map<String, Value>) -> bool
-    ensures { result ≡ each_key is_end_field (members_view members.now.entries) }
+fn are_do_alone(members: &Map<String, Value>) -> bool
+    ensures { result ≡ each_key is_do_field (members_view members.now.entries) }
 {
-    members.keys().all(|key| is_end_field(key.as_str()))
+    members.keys().all(|key| is_do_field(key.as_str()))
 }
 
 fn has_fields_of_open(line: &Value) -> bool
@@ -69,11 +71,11 @@ fn has_fields_of_open(line: &Value) -> bool
     }
 }
 
-fn has_fields_of_end(line: &Value) -> bool
-    ensures { result ≡ has_only is_end_field (view line.now) }
+fn has_do_alone(line: &Value) -> bool
+    ensures { result ≡ has_only is_do_field (view line.now) }
 {
     match line.as_object() {
-        Some(members) => are_of_end(members),
+        Some(members) => are_do_alone(members),
         None => true,
     }
 }
@@ -106,12 +108,13 @@ fn opening_of(line: &Value) -> Asking
     }
 }
 
-#[tactic(auto, unfolding(crate::specs::Asked::end_at))]
-fn ending_of(line: &Value) -> Asking
-    ensures { result ≡ end_at (view line.now) }
+/// What a line asks by its word alone.
+#[tactic(auto, unfolding(crate::specs::Asked::alone_at))]
+fn alone_of(line: &Value, asking: Asking) -> Asking
+    ensures { result ≡ alone_at asking (view line.now) }
 {
-    if has_fields_of_end(line) {
-        Asking::End
+    if has_do_alone(line) {
+        asking
     } else {
         Asking::Fault(AskingFault::UnknownField)
     }
@@ -123,7 +126,8 @@ fn asked_at(line: &Value) -> Asking
 {
     match line.get("do").and_then(Value::as_str) {
         Some("open") => opening_of(line),
-        Some("end") => ending_of(line),
+        Some("renew") => alone_of(line, Asking::Renew),
+        Some("end") => alone_of(line, Asking::End),
         _ => Asking::Script,
     }
 }

@@ -1,15 +1,17 @@
 //! A session that is open.
 
-ghost use Rattle.std.specs.Prelude.{◌≡◌, IfOk, OnErr, false, string_bytes};
+ghost use Rattle.std.specs.Prelude.{◌≡◌, ◌⊎◌, IfOk, OnErr, OnOk, false, string_bytes};
 ghost use Rattle.std.specs.Arc.{arc_value};
 ghost use Rattle.pcef_model.specs.Journals.{report_count};
 ghost use Rattle.pcef_script.specs.ScriptAnswers.{AnswersLine, LacksForLine};
 ghost use Rattle.pcef_script.specs.ScriptLines.{is_blank};
+ghost use Rattle.pcef_sessions.specs.Under.{renewal_text, renewed};
 ghost use Rattle.pcef_world.specs.Steps.{standing_of};
 
 use pcef_built_in::ShapedCatalog;
 use pcef_index::IndexShelf;
 use pcef_line::LineReader;
+use pcef_renewal_answer::answer_renew;
 use pcef_script::{LineAnswer, answer_alone};
 use pcef_world::WorldState;
 use std::alloc::{AllocError, Global};
@@ -81,6 +83,22 @@ impl Held {
             Some(answer) => Ok(answer),
             None => unreachable!(),
         }
+    }
+
+    /// Renews the session, and answers. The reports of the lines before it were written, and are forgotten.
+    pub(crate) fn renew(&mut self, alloc: Global) -> Result<LineAnswer, AllocError>
+        ensures text { IfOk result (λ a. string_bytes a.text ≡ renewal_text self.old.session) }
+        ensures fault { IfOk result (λ a. a.is_fault ≡ false) }
+        ensures there { OnOk result (self.new.session ≡ renewed self.old.session) }
+        ensures lacks { OnErr result ((self.new.session ≡ self.old.session)
+            ⊎ (self.new.session ≡ renewed self.old.session)) }
+    {
+        let world = &mut self.world;
+        world.forget();
+        Ok(LineAnswer {
+            text: answer_renew(alloc, world, &*self.catalog).text?,
+            is_fault: false,
+        })
     }
 
     /// Lets the session share the index of another one whose rules are equal, by this shelf. Nothing else changes.

@@ -2,7 +2,7 @@
 //! lines and writes their answers.
 //!
 //! Its contracts say: under each name stand exactly the answers that a script gives to that name's lines between its
-//! `open` and its `end`; a line of one session changes no other.
+//! `open`, its renewals and its `end`; a line of one session changes no other.
 //!
 //! In the order of reading: `name`, `asking`, `held`, `sessions`, `saying`, `laws`, `running`, `run`.
 #![tactic(auto)]

@@ -12,7 +12,7 @@ ghost use Rattle.pcef_sessions.specs.Sayings.{AnswersNamedLine, LacksForNamedLin
 ghost use Rattle.pcef_sessions.specs.declared.asking.Asking.TheVariants as asking;
 ghost use Rattle.pcef_sessions.specs.Standing.{Becomes, fixed, held};
 ghost use Rattle.pcef_sessions.specs.Under.{opened, with_address};
-ghost use Rattle.pcef_sessions.specs.private.Steps.{AllStay, AnswersIn, Asks, AsksInstead, LacksIn, OthersStay, RunLacks, Runs};
+ghost use Rattle.pcef_sessions.specs.private.Steps.{AllStay, AnswersIn, Asks, AsksInstead, LacksAsked, LacksIn, OthersStay, RunLacks, Runs};
 
 use crate::asking::{Asking, asked_of};
 use crate::held::Held;
@@ -190,6 +190,24 @@ impl Sessions {
         Ok(answer)
     }
 
+    /// The answer to a line that renews a session. Its rules may share an index then.
+    fn asked_renew(&mut self, name: &SessionName) -> Result<LineAnswer, AllocError>
+        ensures answer { IfOk result (λ a. Asks self.old name.now asking.Renew a self.new) }
+        ensures lacks { OnErr result (LacksAsked self.old name.now asking.Renew self.new) }
+        ensures fixed { fixed self.new ≡ fixed self.old }
+    {
+        match self.table.get_mut(name) {
+            None => says(self.alloc, "{\"name\":\"NoSession\",\"refused\":0}", false),
+            Some(held) => match held.renew(self.alloc) {
+                Ok(answer) => {
+                    held.share_index(&mut self.shelf);
+                    Ok(answer)
+                }
+                Err(error) => Err(error),
+            },
+        }
+    }
+
     /// The answer to a line that ends a session. It comes first, so that nothing is done where memory is lacking.
     fn asked_end(&mut self, name: &SessionName) -> Result<LineAnswer, AllocError>
         ensures answer { IfOk result (λ a. Asks self.old name.now asking.End a self.new) }
@@ -207,11 +225,12 @@ impl Sessions {
     /// The answer to a line that asks this of the sessions, or of a session that isn't open.
     fn ask(&mut self, name: &SessionName, asking: Asking) -> Result<LineAnswer, AllocError>
         ensures answer { IfOk result (λ a. Asks self.old name.now asking a self.new) }
-        ensures lacks { OnErr result (AllStay self.old self.new) }
+        ensures lacks { OnErr result (LacksAsked self.old name.now asking self.new) }
         ensures fixed { fixed self.new ≡ fixed self.old }
     {
         match asking {
             Asking::Open(ue) => self.answer_open(name, ue),
+            Asking::Renew => self.asked_renew(name),
             Asking::End => self.asked_end(name),
             Asking::Fault(fault) => says_fault(self.alloc, fault),
             Asking::Script => says(self.alloc, "{\"name\":\"NoSession\",\"refused\":0}", false),
@@ -221,14 +240,14 @@ impl Sessions {
     /// The answer to a line of a session that isn't open.
     fn ask_first(&mut self, name: &SessionName, line: &[u8]) -> Result<LineAnswer, AllocError>
         ensures answer { IfOk result (λ a. Asks self.old name.now (asked_of line.now) a self.new) }
-        ensures lacks { OnErr result (AllStay self.old self.new) }
+        ensures lacks { OnErr result (LacksAsked self.old name.now (asked_of line.now) self.new) }
         ensures fixed { fixed self.new ≡ fixed self.old }
     {
         let asking = asked_of(self.alloc, line)?;
         self.ask(name, asking)
     }
 
-    /// The answer to a line of a script at fault, which is for the sessions if it opens one or ends one.
+    /// The answer to a line of a script at fault, which is for the sessions if it opens one, renews one or ends one.
     fn ask_instead(
         &mut self,
         name: &SessionName,
@@ -236,7 +255,7 @@ impl Sessions {
         answer: LineAnswer,
     ) -> Result<LineAnswer, AllocError>
         ensures answer { IfOk result (λ a. AsksInstead self.old name.now line.now answer a self.new) }
-        ensures lacks { OnErr result (AllStay self.old self.new) }
+        ensures lacks { OnErr result (LacksAsked self.old name.now (asked_of line.now) self.new) }
         ensures fixed { fixed self.new ≡ fixed self.old }
     {
         match asked_of(self.alloc, line)? {
@@ -264,8 +283,8 @@ impl Sessions {
         }
     }
 
-    /// Does what a line asks for: a session's name, one space, and a line of a script, or one that opens the session or
-    /// ends it. Nothing is done for a line without name, space or rest. Takes memory for the answer and for what a
+    /// Does what a line asks for: a session's name, one space, and a line of a script, or one that opens the session,
+    /// renews it or ends it. Nothing is done for a line without name, space or rest. Takes memory for the answer and for what a
     /// session keeps. When out of memory, what stands under the name is as before, or as after the line; the other
     /// names keep what they have.
     pub fn answer(&mut self, line: &[u8]) -> Result<NamedAnswer, AllocError>

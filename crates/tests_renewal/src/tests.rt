@@ -1,5 +1,6 @@
 //! Worked sessions and their renewals. The sessions are given as lines, and the renewals in few words, command by command.
 
+mod answers;
 mod lists;
 mod steps;
 mod worked;

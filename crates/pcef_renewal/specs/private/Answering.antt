@@ -4,6 +4,7 @@ use Rattle.std.specs.declared.alloc.AllocError.{AllocError}
 use Rattle.pcef_model.specs.declared.answer.Accepted.{Accepted}
 use Rattle.pcef_model.specs.declared.command.Command.{Command}
 use Rattle.pcef_model.specs.Outcomes.{Gives, command_outcome}
+use Rattle.pcef_world.specs.Steps.{standing_of}
 use Rattle.pcef_world.specs.Worlds.{World}
 use Rattle.pcef_world.specs.declared.answer.StepAnswer.{StepAnswer}
 use Rattle.pcef_world.specs.declared.answer.StepAnswer.TheVariants as answer
@@ -16,4 +17,4 @@ accepted_of _ = Err alloc_error
 -- a command was done, as is due, or for whatever reason it wasn't, and nothing changed
 abbrev pub IsAnswered : World → Command → Result Accepted AllocError → World → Type 0
 IsAnswered before c (Ok accepted) after = Gives (command_outcome before.session.setting before.session.journal c) (Ok accepted) after.session.journal
-IsAnswered before c (Err lack) after = after.session.journal ≡ before.session.journal
+IsAnswered before c (Err lack) after = standing_of after ≡ standing_of before

@@ -1,5 +1,5 @@
 -- The steps to an answer.
-use Rattle.std.specs.Prelude.{ℕ, ◌≡◌, ◌≢◌, List, true, false, Option, Some, None, string_bytes}
+use Rattle.std.specs.Prelude.{ℕ, ◌≡◌, ◌≢◌, ◌⊎◌, List, true, false, Option, Some, None, string_bytes}
 use Rattle.pcef_model.specs.Setting.{Setting}
 use Rattle.pcef_world.specs.Steps.{Standing}
 use Rattle.pcef_script.specs.declared.step.LineAnswer.{LineAnswer}
@@ -9,7 +9,7 @@ use Rattle.pcef_sessions.specs.declared.asking.Asking.TheVariants as asking
 use Rattle.pcef_sessions.specs.declared.sessions.Sessions.{Sessions}
 use Rattle.pcef_sessions.specs.Asked.{asked_of}
 use Rattle.pcef_sessions.specs.Standing.{fixed, held}
-use Rattle.pcef_sessions.specs.Under.{LacksUnder, Session, Says, UnderName, asking_fault_text, done_text, is_open_text, no_session_text, opened, with_address}
+use Rattle.pcef_sessions.specs.Under.{LacksUnder, Session, Says, UnderName, asking_fault_text, done_text, is_open_text, no_session_text, opened, renewal_text, renewed, with_address}
 
 -- nothing changes under the other names
 abbrev pub OthersStay : Sessions → List ℕ → Sessions → Type 0
@@ -38,6 +38,8 @@ RunLacks (Some s) line after =
 abbrev pub AsksOf : Setting → Option Session → Asking → LineAnswer → Option Session → Type 0
 AsksOf p None (asking.Open ue) a after = Says done_text false (Some (opened (with_address ue p))) (string_bytes a.text) a.is_fault after
 AsksOf p (Some s) (asking.Open ue) a after = Says is_open_text false (Some s) (string_bytes a.text) a.is_fault after
+AsksOf p None asking.Renew a after = Says no_session_text false None (string_bytes a.text) a.is_fault after
+AsksOf p (Some s) asking.Renew a after = Says (renewal_text s) false (Some (renewed s)) (string_bytes a.text) a.is_fault after
 AsksOf p None asking.End a after = Says no_session_text false None (string_bytes a.text) a.is_fault after
 AsksOf p (Some s) asking.End a after = Says done_text false None (string_bytes a.text) a.is_fault after
 AsksOf p there (asking.Fault why) a after = Says (asking_fault_text why) true there (string_bytes a.text) a.is_fault after
@@ -46,9 +48,17 @@ AsksOf p there asking.Script a after = Says no_session_text false there (string_
 abbrev pub Asks : Sessions → List ℕ → Asking → LineAnswer → Sessions → Type 0
 Asks old name asks a new = AsksOf (fixed old) (held old name) asks a (held new name) × OthersStay old name new
 
+-- memory was lacking: nothing changes, or the session is renewed, and the answer alone is lacking
+abbrev pub AskLacks : Option Session → Asking → Option Session → Type 0
+AskLacks there asks after = (after ≡ there) ⊎ ((s : Session) × (there ≡ Some s) × (asks ≡ asking.Renew) × (after ≡ Some (renewed s)))
+
+abbrev pub LacksAsked : Sessions → List ℕ → Asking → Sessions → Type 0
+LacksAsked old name asks new = AskLacks (held old name) asks (held new name) × OthersStay old name new
+
 -- the answer of a script stands where the line asks nothing of the sessions
 abbrev pub InsteadOf : Setting → Option Session → Asking → LineAnswer → LineAnswer → Option Session → Type 0
 InsteadOf p there (asking.Open ue) script a after = AsksOf p there (asking.Open ue) a after
+InsteadOf p there asking.Renew script a after = AsksOf p there asking.Renew a after
 InsteadOf p there asking.End script a after = AsksOf p there asking.End a after
 InsteadOf p there (asking.Fault why) script a after = AsksOf p there (asking.Fault why) a after
 InsteadOf p there asking.Script script a after = (a ≡ script) × (after ≡ there)

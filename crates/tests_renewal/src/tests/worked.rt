@@ -100,6 +100,7 @@ pub(crate) fn make_all(
     lines: &[&str],
 ) -> Result<(), Fail>
     requires { world.old.session.setting.catalog ≡ catalog.now }
+    ensures { world.new.session.setting ≡ world.old.session.setting }
 {
     for line in lines {
         make(alloc, world, catalog, *line)?;

@@ -1,0 +1,3 @@
+pub mod Texts
+pub mod Renewed
+pub mod private
