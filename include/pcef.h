@@ -355,8 +355,9 @@ uint8_t pcef_gx_message(pcef_session *at, pcef_gx *gx, const uint8_t *octets, si
 #define PCEF_GX_NO_NUMBER 40     /* of pcef_gx_next: no CC-Request-Number is left */
 #define PCEF_GX_WORKERS 41       /* of pcef_gx_end: workers are attached; each finishes first */
 #define PCEF_GX_NO_VALUE 42      /* of pcef_gx_notice: no octets, or too many */
-#define PCEF_GX_SESSION_REFUSES 43 /* of pcef_gx_notice: the session has ended, or takes no more commands */
+#define PCEF_GX_SESSION_REFUSES 43 /* the session has ended, or takes no more commands; of pcef_gx_renew: or has workers */
 #define PCEF_GX_NO_EVENT 44      /* of pcef_gx_notice: no event has the number */
+#define PCEF_GX_REPORTS_DUE 45   /* of pcef_gx_renew: over 100 reports aren't told yet: CCRs tell them first */
 
 /* What the last message left to the host. Which event triggers it has, and what charging and maximum rates it sets,
  * stands in the message. */
@@ -407,6 +408,13 @@ uint8_t pcef_gx_notice(pcef_session *at, uint8_t event, const uint8_t *octets, s
 #define PCEF_GX_PLMN_CHANGE 4
 #define PCEF_GX_USER_LOCATION_CHANGE 13
 #define PCEF_GX_UE_TIME_ZONE_CHANGE 25
+
+/* Renews the session as pcef_renew does, and goes on with the dialogue: the same Session-Id, and CCRs that are numbered
+ * on. The PCRF hears of nothing but usage: what it wasn't told of the old session is due for the next CCR, and a CCR
+ * that is out stays out. Let each worker finish before, and attach again; bearers may have other numbers then
+ * (pcef_bearer). Changes nothing where it isn't PCEF_OK: PCEF_GX_NO_DIALOGUE, _OTHER_SESSION, _NO_MEMORY, _FORGOTTEN,
+ * _SESSION_REFUSES, _REPORTS_DUE. Takes memory. */
+uint8_t pcef_gx_renew(pcef_session *at, pcef_gx *gx);
 
 /* Ends the session: the user left, or the PCRF wants it. A CCR-T with the last usage is due then, before the session is
  * closed by pcef_close. PCEF_OK, PCEF_GX_NO_DIALOGUE, _OTHER_SESSION, _WORKERS, _NO_MEMORY. Takes memory. */

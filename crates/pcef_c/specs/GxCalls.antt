@@ -4,12 +4,14 @@ use Rattle.pcef_gx_handle.specs.Dialogues.{Dialoguing, reply_of}
 use Rattle.pcef_gx_handle.specs.Ending.{EndsGx, Notices}
 use Rattle.pcef_gx_handle.specs.Hearing.{Hears}
 use Rattle.pcef_gx_handle.specs.Opening.{OpensGx}
+use Rattle.pcef_gx_handle.specs.Renewing.{RenewsGx}
 use Rattle.pcef_gx_handle.specs.Telling.{Next, again, forgone, out_of}
 use Rattle.pcef_gx_handle.specs.declared.ending.EndRefusal.{EndRefusal}
 use Rattle.pcef_gx_handle.specs.declared.ending.NoticeRefusal.{NoticeRefusal}
 use Rattle.pcef_gx_handle.specs.declared.hearing.Heard.{Heard}
 use Rattle.pcef_gx_handle.specs.declared.hearing.HearRefusal.{HearRefusal}
 use Rattle.pcef_gx_handle.specs.declared.opening.BeginRefusal.{BeginRefusal}
+use Rattle.pcef_gx_handle.specs.declared.renewing.GoOnRefusal.{GoOnRefusal}
 use Rattle.pcef_gx_handle.specs.declared.telling.NextRefusal.{NextRefusal}
 use Rattle.pcef_gx_messages.specs.Identities.{IsShort, Speaker}
 use Rattle.pcef_gx_messages.specs.declared.requesting.RequestKind.{RequestKind}
@@ -17,7 +19,7 @@ use Rattle.pcef_handle.specs.Answering.{CopiesFront}
 use Rattle.pcef_handle.specs.declared.held.Handle.{Handle}
 use Rattle.pcef_model.specs.declared.trigger.AccessKind.{AccessKind}
 use Rattle.pcef_model.specs.declared.trigger.AccessKind.TheVariants.{PlmnChange, RatChange, UeTimeZoneChange, UserLocationChange}
-use Rattle.pcef_c.specs.GxNumbers.{begin_number, end_number, flag_number, hear_number, left_after, next_number, notice_number, stage_number}
+use Rattle.pcef_c.specs.GxNumbers.{begin_number, end_number, go_on_number, flag_number, hear_number, left_after, next_number, notice_number, stage_number}
 use Rattle.pcef_c.specs.GxPorts.{nothing_left}
 use Rattle.pcef_c.specs.Named.{Named, named_with, nothing_named, part_of}
 use Rattle.pcef_c.specs.declared.gx_port.CLeft.{CLeft}
@@ -78,6 +80,12 @@ abbrev pub EndReturns : Handle → GxPort → Handle → GxPort → ℕ → Type
 EndReturns old port new after number =
     (ended : Result (Unit {0}) EndRefusal) × EndsGx port.gx.dialogue old.session ended after.gx.dialogue new.session
     × (new.next_number ≡ old.next_number) × StaysBeside port after × (number ≡ end_number ended)
+
+-- ---- the renewal
+abbrev pub RenewGxReturns : Handle → GxPort → Handle → GxPort → ℕ → Type 0
+RenewGxReturns old port new after number =
+    (renewed : Result (Unit {0}) GoOnRefusal) × RenewsGx port.gx.dialogue old renewed after.gx.dialogue new
+    × StaysBeside port after × (number ≡ go_on_number renewed)
 
 -- an event has the number of its event trigger (TS 29.212, clause 5.3.7)
 abbrev pub kind_of : ℕ → Option AccessKind

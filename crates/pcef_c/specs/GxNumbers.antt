@@ -15,6 +15,8 @@ use Rattle.pcef_gx_handle.specs.declared.held.Stage.{Stage}
 use Rattle.pcef_gx_handle.specs.declared.held.Stage.TheVariants as stage
 use Rattle.pcef_gx_handle.specs.declared.opening.BeginRefusal.{BeginRefusal}
 use Rattle.pcef_gx_handle.specs.declared.opening.BeginRefusal.TheVariants as beginning
+use Rattle.pcef_gx_handle.specs.declared.renewing.GoOnRefusal.{GoOnRefusal}
+use Rattle.pcef_gx_handle.specs.declared.renewing.GoOnRefusal.TheVariants as going
 use Rattle.pcef_gx_handle.specs.declared.telling.NextRefusal.{NextRefusal}
 use Rattle.pcef_gx_handle.specs.declared.telling.NextRefusal.TheVariants as telling
 use Rattle.pcef_gx_messages.specs.declared.requesting.RequestKind.{RequestKind}
@@ -94,6 +96,15 @@ end_number (Err ending.NoDialogue) = 32
 end_number (Err ending.OtherSession) = 36
 end_number (Err ending.NoMemory) = 38
 end_number (Err ending.WorkersAttached) = 41
+
+abbrev pub go_on_number : Result (Unit {0}) GoOnRefusal → ℕ
+go_on_number (Ok renewed) = 0
+go_on_number (Err going.NoDialogue) = 32
+go_on_number (Err going.OtherSession) = 36
+go_on_number (Err going.NoMemory) = 38
+go_on_number (Err going.Forgotten) = 39
+go_on_number (Err going.SessionRefuses) = 43
+go_on_number (Err going.ReportsDue) = 45
 
 abbrev pub notice_number : Result (Unit {0}) NoticeRefusal → ℕ
 notice_number (Ok noticed) = 0

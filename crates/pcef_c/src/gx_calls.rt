@@ -1,13 +1,13 @@
 //! The calls of C on a session over Gx behind their pointers: each is a call on a handle, with its answer as a number.
 
 ghost use Rattle.std.specs.Prelude.{◌≡◌, option_map};
-ghost use Rattle.pcef_c.specs.GxCalls.{AgainReturns, BeginsAs, ClosesGx, EndReturns, GiveUpReturns, IsPutOctets, LeftReturns, MessageReturns, NextReturns, NoticeReturns, OpenGxReturns, ReplyReturns, RequestReturns, SetReturns, StageReturns, kind_of, replied, requested};
+ghost use Rattle.pcef_c.specs.GxCalls.{AgainReturns, BeginsAs, ClosesGx, EndReturns, GiveUpReturns, IsPutOctets, LeftReturns, MessageReturns, NextReturns, NoticeReturns, OpenGxReturns, RenewGxReturns, ReplyReturns, RequestReturns, SetReturns, StageReturns, kind_of, replied, requested};
 ghost use Rattle.pcef_c.specs.GxPorts.{IsEmptyPort};
 ghost use Rattle.pcef_c.specs.Named.{part_of};
 
 use crate::gx_numbers::{
-    begin_number, end_number, flag_number, hear_number, left_after, next_number, notice_number,
-    stage_number,
+    begin_number, end_number, flag_number, go_on_number, hear_number, left_after, next_number,
+    notice_number, stage_number,
 };
 use crate::gx_port::{CLeft, GxPort, HostNames, NOTHING_LEFT, Part};
 use pcef_gx_handle::{BeginRefusal, Dialogue, GxHandle, notice};
@@ -104,6 +104,14 @@ pub(crate) fn end(handle: &mut Handle, port: &mut GxPort) -> u8
 {
     let ended = port.gx.end(handle);
     end_number(ended)
+}
+
+/// Renews the session, and goes on with the dialogue. Returns 0, or why not.
+pub(crate) fn renew_gx(handle: &mut Handle, port: &mut GxPort) -> u8
+    ensures { RenewGxReturns handle.old port.old handle.new port.new result }
+{
+    let renewed = port.gx.renew(handle);
+    go_on_number(renewed)
 }
 
 /// The kind of access event of a number, that of its event trigger.

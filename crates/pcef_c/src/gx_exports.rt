@@ -4,14 +4,14 @@
 ghost use Rattle.std.specs.Prelude.{◌≡◌};
 ghost use Rattle.std.specs.Borrow.{sem};
 ghost use Rattle.pcef_handle.specs.declared.held.Handle.{Handle};
-ghost use Rattle.pcef_c.specs.GxCalls.{AgainReturns, ClosesGx, EndReturns, GiveUpReturns, LeftReturns, MessageReturns, NextReturns, NoticeReturns, OpenGxReturns, ReplyReturns, RequestReturns, SetReturns, StageReturns};
+ghost use Rattle.pcef_c.specs.GxCalls.{AgainReturns, ClosesGx, EndReturns, GiveUpReturns, LeftReturns, MessageReturns, NextReturns, NoticeReturns, OpenGxReturns, RenewGxReturns, ReplyReturns, RequestReturns, SetReturns, StageReturns};
 ghost use Rattle.pcef_c.specs.GxPorts.{IsEmptyPort};
 ghost use Rattle.pcef_c.specs.Handles.{gx_lies, gx_room, gx_size, lies};
 ghost use Rattle.pcef_c.specs.declared.gx_port.GxPort.{GxPort};
 
 use crate::gx_calls::{
-    again, close_gx, empty_port, end, give_up, left, message, next, notice_event, open_gx, reply,
-    request, set, stage,
+    again, close_gx, empty_port, end, give_up, left, message, next, notice_event, open_gx,
+    renew_gx, reply, request, set, stage,
 };
 use crate::gx_port::{CLeft, GxPort};
 use pcef_handle::Handle;
@@ -157,6 +157,18 @@ pub unsafe extern "C" fn pcef_gx_end(at: *mut u8, gx: *mut u8) -> u8
         ∗ ⌜ EndReturns old.0 old.1 new after result ⌝)) }
 {
     end(&mut *(at as *mut Handle), &mut *(gx as *mut GxPort))
+}
+
+/// Renews the session, and goes on with the dialogue. Returns 0, or why not. Takes memory.
+#[unsafe(no_mangle)]
+pub unsafe extern "C" fn pcef_gx_renew(at: *mut u8, gx: *mut u8) -> u8
+    ghost old: { Handle × GxPort }
+    requires* { sem 𝓛 (lies at old.0) ∗ sem 𝓛 (gx_lies gx old.1) }
+    ensures* { ∃ₛ (λ (new : Handle). ∃ₛ (λ (after : GxPort).
+        (sem 𝓛 (lies at new) ∗ sem 𝓛 (gx_lies gx after))
+        ∗ ⌜ RenewGxReturns old.0 old.1 new after result ⌝)) }
+{
+    renew_gx(&mut *(at as *mut Handle), &mut *(gx as *mut GxPort))
 }
 
 /// Where the dialogue stands, 0 where there is none. Takes no memory.

@@ -1,13 +1,13 @@
 //! The numbers that C gets of a session over Gx.
 
 ghost use Rattle.std.specs.Prelude.{◌≡◌};
-ghost use Rattle.pcef_c.specs.GxNumbers.{begin_number, end_number, flag_number, hear_number, heard_left, left_after, left_numbers, next_number, notice_number, release_left, result_left, stage_number};
+ghost use Rattle.pcef_c.specs.GxNumbers.{begin_number, end_number, flag_number, go_on_number, hear_number, heard_left, left_after, left_numbers, next_number, notice_number, release_left, result_left, stage_number};
 
 use crate::gx_port::{CLeft, NOTHING_LEFT};
 use crate::numbers::open_number;
 use pcef_gx_dialogue::{Grant, LeftToHost, RarDone};
 use pcef_gx_handle::{
-    BeginRefusal, EndRefusal, HearRefusal, Heard, NextRefusal, NoticeRefusal, Stage,
+    BeginRefusal, EndRefusal, GoOnRefusal, HearRefusal, Heard, NextRefusal, NoticeRefusal, Stage,
 };
 use pcef_gx_messages::RequestKind;
 use pcef_model::Refusal;
@@ -149,6 +149,21 @@ pub(crate) fn end_number(ended: Result<(), EndRefusal>) -> u8
         Err(EndRefusal::OtherSession) => 36,
         Err(EndRefusal::NoMemory) => 38,
         Err(EndRefusal::WorkersAttached) => 41,
+    }
+}
+
+/// 0, or why the session isn't renewed.
+pub(crate) fn go_on_number(renewed: Result<(), GoOnRefusal>) -> u8
+    ensures { result ≡ go_on_number renewed }
+{
+    match renewed {
+        Ok(()) => 0,
+        Err(GoOnRefusal::NoDialogue) => 32,
+        Err(GoOnRefusal::OtherSession) => 36,
+        Err(GoOnRefusal::NoMemory) => 38,
+        Err(GoOnRefusal::Forgotten) => 39,
+        Err(GoOnRefusal::SessionRefuses) => 43,
+        Err(GoOnRefusal::ReportsDue) => 45,
     }
 }
 

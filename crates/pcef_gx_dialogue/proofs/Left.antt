@@ -1,7 +1,7 @@
 -- The keys that are kept and left without a grant are those of the journal.
-use Rattle.std.proofs.Common.{◌≡◌, ◌∙◌, ℕ, Bool, true, false, List, [], ◌∷◌, filter, map, refl, sym, ap, inl, inr}
-use Rattle.std.specs.Prelude.{◌&&◌, is_none, not}
-use Rattle.std.specs.List.{AllByRecursion, list_any}
+use Rattle.std.proofs.Common.{◌≡◌, ◌∙◌, ℕ, true, false, List, [], ◌∷◌, filter, map, refl, sym, ap, inl, inr}
+use Rattle.std.specs.Prelude.{is_none}
+use Rattle.std.specs.List.{AllByRecursion}
 use Rattle.std.proofs.lemmas.Bool.{cases_Bool}
 use Rattle.pcef_gx.specs.declared.order.Order.{Order}
 use Rattle.pcef_model.specs.Commands.{is_among}
@@ -10,7 +10,7 @@ use Rattle.pcef_model.specs.Journals.{grant, now}
 use Rattle.pcef_model.specs.Setting.{Setting}
 use Rattle.pcef_session.specs.Agreement.{KeyAgrees, KeysAgree}
 use Rattle.pcef_usage.specs.declared.usage.KeyState.{KeyState}
-use Rattle.pcef_gx_dialogue.specs.Stopping.{is_granted, is_left, keys_left, waits}
+use Rattle.pcef_gx_dialogue.specs.Stopping.{is_left, keys_left}
 use Rattle.pcef_gx_dialogue.specs.private.Left.{is_state_left, states_left}
 
 left_are : (p : Setting) (j : Journal) (told : ℕ) (orders : List Order) (states : List KeyState) → AllByRecursion (KeyAgrees p j) states →

@@ -74,6 +74,13 @@ past_of c (Some o) = o.past
 abbrev pub answered_so : Bool → Ccrs → Ccrs
 answered_so success c = record { next = c.next; told = if success then past_of c c.out else c.told; out = None }
 
+-- another journal begins, of which nothing is told; the one that is out tells nothing of it
+abbrev pub out_anew : Out → Out
+out_anew o = record o { past = 0 }
+
+abbrev pub anew : Ccrs → Ccrs
+anew c = record c { told = 0; out = option_map out_anew c.out }
+
 -- why none goes out: one is out
 abbrev pub RefusesSend : SendRefusal → Ccrs → Type 0
 RefusesSend IsOut c = is_some c.out ≡ true

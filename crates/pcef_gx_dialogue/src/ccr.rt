@@ -2,7 +2,7 @@
 
 ghost use Rattle.std.specs.Prelude.{◌≡◌, ◌≤◌, ◌+◌, IfErr, IfOk, OnErr, OnOk, None, false, length, option_map, true};
 ghost use Rattle.pcef_gx_dialogue.specs.Ccas.{has_identifiers};
-ghost use Rattle.pcef_gx_dialogue.specs.Ccrs.{RefusesSend, answered_so, at_first, given_up, is_answer, past_of, sent, sent_again, with_t_bit};
+ghost use Rattle.pcef_gx_dialogue.specs.Ccrs.{RefusesSend, anew, answered_so, at_first, given_up, is_answer, past_of, sent, sent_again, with_t_bit};
 
 use pcef_diameter::MessageHeader;
 use pcef_gx_messages::{Identity, RequestKind, RequestMark, request};
@@ -162,6 +162,17 @@ impl Ccrs {
         ensures { self.new ≡ given_up self.old }
     {
         self.out = None;
+    }
+
+    /// Another journal begins, of which nothing is told: what the CCR that is out tells, if one is, was told of the one
+    /// before. Takes no memory.
+    pub fn begin_anew(&mut self)
+        ensures { self.new ≡ anew self.old }
+    {
+        self.told = 0;
+        if let Some(out) = &mut self.out {
+            out.past = 0;
+        }
     }
 
     /// Whether an answer with this CC-Request-Type and CC-Request-Number is one to the CCR that is out. Takes no memory.

@@ -1,2 +1,3 @@
 -- What only private clauses speak of: a reader of the public ones may pass over it.
+pub mod Carrying
 pub mod Inside

@@ -6,7 +6,7 @@
 //! octet for octet.
 //!
 //! In the order of reading: `held`, `proposing`, `opening`, `beside`, `hearing`, `granting`,
-//! `telling`, `ending`.
+//! `telling`, `ending`, `renewing`.
 #![tactic(auto)]
 
 mod beside;
@@ -16,10 +16,12 @@ mod hearing;
 mod held;
 mod opening;
 mod proposing;
+mod renewing;
 mod telling;
 
 pub use ending::{EndRefusal, NoticeRefusal, notice};
 pub use hearing::{HearRefusal, Heard};
 pub use held::{Dialogue, GxHandle, Stage};
 pub use opening::{BeginRefusal, MAX_OTHERS};
+pub use renewing::GoOnRefusal;
 pub use telling::NextRefusal;

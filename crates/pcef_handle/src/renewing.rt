@@ -1,14 +1,34 @@
 //! Renews a session.
 
-ghost use Rattle.pcef_handle.specs.Renewing.{RenewsHandle, RenewsInto};
+ghost use Rattle.std.specs.Prelude.{◌≡◌, IfOk, OnOk, string_bytes};
+ghost use Rattle.pcef_renewal_answer.specs.Renewed.{AnswersRenew, renews};
+ghost use Rattle.pcef_handle.specs.Renewing.{IsRenewedInPlace, RenewsHandle, RenewsInto};
 
 use crate::held::{Handle, OpenSession};
 use crate::line::CallRefusal;
 use crate::text::copy_front;
-use pcef_renewal_answer::answer_renew;
+use pcef_renewal_answer::{RenewAnswer, answer_renew};
 use std::alloc::Global;
 
-/// Renews a session, which has the number `next` then.
+impl OpenSession {
+    /// Renews the session in its place, as [`answer_renew`] does: it gets the number `next` then, and the next session the
+    /// one behind it. Takes memory.
+    pub fn renew(&mut self, alloc: Global, next: &mut u64) -> RenewAnswer
+        ensures answer { IfOk result.text (λ text.
+            AnswersRenew self.old.world (string_bytes text) self.new.world) }
+        ensures told { OnOk result.text (result.renewed ≡ renews self.old.world) }
+        ensures place { IsRenewedInPlace self.old next.old result.renewed self.new next.new }
+    {
+        let answer = answer_renew(alloc, &mut self.world, &self.catalog);
+        if answer.renewed {
+            self.number = *next;
+            *next = next.wrapping_add(1);
+        }
+        answer
+    }
+}
+
+/// Renews a session, with its answer in a buffer.
 fn renew_into(
     alloc: Global,
     session: &mut OpenSession,
@@ -17,11 +37,7 @@ fn renew_into(
 ) -> Result<usize, CallRefusal>
     ensures { RenewsInto session.old next.old buffer.old result session.new next.new buffer.new }
 {
-    let answer = answer_renew(alloc, &mut session.world, &session.catalog);
-    if answer.renewed {
-        session.number = *next;
-        *next = next.wrapping_add(1);
-    }
+    let answer = session.renew(alloc, next);
     match answer.text {
         Ok(text) => Ok(copy_front(text.as_bytes(), buffer)),
         Err(_) => Err(CallRefusal::NoMemory),

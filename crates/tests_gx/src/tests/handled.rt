@@ -10,11 +10,13 @@ use super::one_session::{
 };
 use super::playing::{SESSION_ID, identity};
 use super::used_up::{
-    GRANTED_MEANWHILE, LAST_OF_GRANTED, LAST_OF_GRANTED_HEARD, LAST_OF_STOPPED,
-    LAST_OF_STOPPED_HEARD, MEANWHILE_DONE, REST, REST_HEARD, STOPPED_BY,
+    BOTH_USAGES, GRANTED_MEANWHILE, LAST_OF_GRANTED, LAST_OF_GRANTED_HEARD, LAST_OF_RENEWED,
+    LAST_OF_STOPPED, LAST_OF_STOPPED_HEARD, MEANWHILE_DONE, REST, REST_HEARD, STOPPED_BY,
 };
 use pcef_gx_dialogue::{Grant, RarDone};
-use pcef_gx_handle::{EndRefusal, GxHandle, HearRefusal, Heard, NextRefusal, Stage, notice};
+use pcef_gx_handle::{
+    EndRefusal, GoOnRefusal, GxHandle, HearRefusal, Heard, NextRefusal, Stage, notice,
+};
 use pcef_gx_messages::{RequestKind, RequestMark};
 use pcef_handle::Handle;
 use pcef_model::AccessKind;
@@ -55,6 +57,8 @@ enum Play {
     Rat(&'static [u8]),
     /// The session doesn't end: a worker is attached.
     EndWithWorker,
+    /// The session is renewed, or refuses.
+    Renew(Result<(), GoOnRefusal>),
     /// The session ends.
     End,
     /// The dialogue stands there.
@@ -172,6 +176,59 @@ static GOES_ON: [Play; 21] = [
     Play::Hear(LAST_OF_GRANTED_HEARD, Said::Ended),
 ];
 
+/// The same session, which is renewed while the CCR-U is out: the PCRF hears of all usage, once.
+static RENEWED: [Play; 25] = [
+    Play::Next(1, RequestKind::Initial, FIRST_REQUEST),
+    Play::Hear(GRANTED, Said::Told),
+    Play::Next(2, RequestKind::Update, RULE_FAILED),
+    Play::Hear(HEARD, Said::Told),
+    Play::Line("{\"do\":\"attach\"}", ""),
+    Play::Line(TAKE, ""),
+    Play::Line(TAKE, ""),
+    Play::Line(TAKE, ""),
+    Play::Line(TAKE, ""),
+    Play::Line("{\"do\":\"flush\",\"worker\":0}", ""),
+    Play::Next(3, RequestKind::Update, THRESHOLD),
+    Play::Line(TAKE, ""),
+    Play::Renew(Err(GoOnRefusal::SessionRefuses)),
+    Play::Line("{\"do\":\"finish\",\"worker\":0}", ""),
+    Play::Renew(Ok(())),
+    Play::Nothing,
+    Play::Hear(STOPPED_BY, Said::Told),
+    Play::Next(4, RequestKind::Update, REST),
+    Play::Hear(REST_HEARD, Said::Told),
+    Play::Line("{\"do\":\"attach\"}", ""),
+    Play::Line(TAKE, ""),
+    Play::Line("{\"do\":\"finish\",\"worker\":0}", ""),
+    Play::End,
+    Play::Next(5, RequestKind::Termination, LAST_OF_RENEWED),
+    Play::Hear(LAST_OF_STOPPED_HEARD, Said::Ended),
+];
+
+/// The same, where the CCR-U that is out fails.
+static RENEWED_AND_FAILED: [Play; 20] = [
+    Play::Next(1, RequestKind::Initial, FIRST_REQUEST),
+    Play::Hear(GRANTED, Said::Told),
+    Play::Next(2, RequestKind::Update, RULE_FAILED),
+    Play::Hear(HEARD, Said::Told),
+    Play::Line("{\"do\":\"attach\"}", ""),
+    Play::Line(TAKE, ""),
+    Play::Line(TAKE, ""),
+    Play::Line(TAKE, ""),
+    Play::Line(TAKE, ""),
+    Play::Line("{\"do\":\"flush\",\"worker\":0}", ""),
+    Play::Next(3, RequestKind::Update, THRESHOLD),
+    Play::Line(TAKE, ""),
+    Play::Renew(Err(GoOnRefusal::SessionRefuses)),
+    Play::Line("{\"do\":\"finish\",\"worker\":0}", ""),
+    Play::Renew(Ok(())),
+    Play::Nothing,
+    Play::Hear(FAILED, Said::Failed(3004)),
+    Play::Next(4, RequestKind::Update, BOTH_USAGES),
+    Play::Hear(REST_HEARD, Said::Told),
+    Play::Nothing,
+];
+
 /// What a message said.
 fn made_of(heard: &Result<Heard, HearRefusal>) -> Said {
     match heard {
@@ -262,6 +319,7 @@ fn is_due(alloc: Global, gx: &mut GxHandle, handle: &mut Handle, play: &Play) ->
         Play::GiveUp => gx.give_up(),
         Play::Rat(octets) => notice(handle, AccessKind::RatChange, octets) == Ok(()),
         Play::EndWithWorker => gx.end(handle) == Err(EndRefusal::WorkersAttached),
+        Play::Renew(due) => gx.renew(handle) == *due,
         Play::End => gx.end(handle) == Ok(()),
         Play::Stands(stage) => stands(gx, *stage),
     }
@@ -305,7 +363,9 @@ fn sessions_go_from_their_first_request_to_their_last(rt: HostRuntime) -> Result
         first_wrong(rt.alloc(), &WHOLE),
         first_wrong(rt.alloc(), &STOPPED),
         first_wrong(rt.alloc(), &GOES_ON),
+        first_wrong(rt.alloc(), &RENEWED),
+        first_wrong(rt.alloc(), &RENEWED_AND_FAILED),
     ];
-    expect_equal(&rt, &wrong, &[None; 3]);
+    expect_equal(&rt, &wrong, &[None; 5]);
     Ok(())
 }
