@@ -64,16 +64,23 @@ static void leave(user *of) {
     send_due(of);
 }
 
-/* The session's rows or commands are used up. The next one is a dialogue of its own, and begins once the PCRF has heard
- * of all usage of this one; the user's packets are dropped meanwhile. A call that renews a session goes here. */
+/* The session's rows or commands come to their end: it is renewed, and the PCRF hears of nothing but usage. The user's
+ * packets are dropped meanwhile; where it can't be renewed now, until it can. */
 static void renew(user *of) {
-    of->comes_again |= !of->is_leaving;
-    leave(of);
+    finish_all(of);
+    pthread_mutex_lock(&of->lock);
+    uint8_t refused = pcef_gx_renew(of->session, of->gx);
+    if (!refused) of->next_report = 0;
+    pthread_mutex_unlock(&of->lock);
+    atomic_store(&of->is_full, refused != 0);
+    attach_all(of);
+    log_user(of, "renewed", ",\"refused\":%d", refused);
+    send_due(of);
+    if (refused) of->retry_at = milliseconds() + RETRY_AFTER;
 }
 
 static void end(user *of, int is_told) {
     log_end(of, is_told ? "true" : "false");
-    if (of->comes_again && !ends_at) begin(of->text, of->subscriber, of->device);
     free_user(of);
 }
 
@@ -94,8 +101,8 @@ static void hear(user *of, struct msg *message) {
     gx_reply(message, octets, reply);
     if (said == PCEF_GX_FAILED || said == PCEF_GX_NO_MEMORY) of->retry_at = milliseconds() + RETRY_AFTER;
     if (said >= PCEF_GX_NO_DIALOGUE) return;
-    if (stage == PCEF_GX_OVER) return end(of, 1);
-    if (said == PCEF_GX_FAILED && stage != PCEF_GX_OPEN) return end(of, 0);
+    int is_over = stage == PCEF_GX_OVER;
+    if (is_over || (said == PCEF_GX_FAILED && stage != PCEF_GX_OPEN)) return end(of, is_over);
     if (stage == PCEF_GX_OPEN && !of->is_open) {
         attach_all(of);
         of->is_open = 1;
@@ -113,7 +120,7 @@ static void do_line(const char *line) {
     if (sscanf(line, "open %47s %15s %d", address, subscriber, &device) == 3) return begin(address, subscriber, device);
     if (sscanf(line, "leave %47s", address) != 1) fprintf(stderr, "gateway: no line: %s", line);
     for (user *of = NULL; (of = user_after(of));)
-        if (!strcmp(of->text, address)) of->comes_again = 0, leave(of);
+        if (!strcmp(of->text, address)) leave(of);
 }
 
 static void handle(const event *came) {
@@ -125,13 +132,13 @@ static void handle(const event *came) {
         for (of = NULL; (of = user_after(of));) leave(of);
     }
     if (of && came->kind == NO_ANSWER) of->retry_at = milliseconds() + RETRY_AFTER;
-    if (of && came->kind == CCR_IS_DUE && !of->is_full) send_due(of);
-    if (of && came->kind == CCR_IS_DUE && of->is_full) renew(of);
+    if (of && came->kind == CCR_IS_DUE) of->is_full && !of->is_leaving ? renew(of) : send_due(of);
 }
 
 /* Sends once more what found no peer or no answer: with the T bit, for the PCRF may have heard it. */
 static void retry(user *of) {
     of->retry_at = 0;
+    if (of->is_full && !of->is_leaving) renew(of);
     if (!pcef_gx_again(of->gx)) return send_due(of);
     add(&requests_out[0], 1);
     log_user(of, "told", ",\"by\":\"CCR\",\"again\":true");

@@ -46,11 +46,11 @@ typedef struct user {
     pcef_session *session;
     uint64_t next_report;            /* the number of the next report that is due */
     _Atomic uint64_t generation;     /* a hint: the newest */
-    atomic_bool is_full;             /* no more rows are taken: the next session is due */
+    atomic_bool is_full;             /* no more rows are taken: a renewal is due */
     lane *lanes;                     /* one for each worker */
     /* What follows is the dialogues' thread's alone. */
     pcef_gx *gx;
-    int is_open, is_leaving, comes_again;
+    int is_open, is_leaving;
     uint64_t retry_at;               /* when the CCR that is out, or that failed, goes out once more; 0: not */
 } user;
 

@@ -6,7 +6,7 @@
 counter requests_out[4];
 
 static struct totals {
-    uint64_t packets[4], octets[4], reported, unreported;
+    uint64_t packets[4], octets[4], unreported;
 } ended; /* of sessions that ended */
 
 uint64_t milliseconds(void) {
@@ -21,10 +21,8 @@ static void add_user(struct totals *to, user *of) {
         to->octets[at % 4] += of->lanes[at / 4].octets[at % 4];
     }
     pthread_mutex_lock(&of->lock);
-    for (uint8_t slot = 0; pcef_reported(of->session, slot) < PCEF_NO_KEY; slot++) {
-        to->reported += pcef_reported(of->session, slot);
+    for (uint8_t slot = 0; pcef_unreported(of->session, slot) < PCEF_NO_KEY; slot++)
         to->unreported += pcef_unreported(of->session, slot);
-    }
     pthread_mutex_unlock(&of->lock);
 }
 
@@ -43,8 +41,8 @@ void log_end(user *of, const char *is_told) {
     add_user(&all, of);
     add_user(&ended, of);
     log_user(of, "ended", ",\"told\":%s,\"packets\":[%lu,%lu,%lu,%lu],\"passed\":[%lu,%lu],\"dropped\":[%lu,%lu],"
-             "\"reported\":%lu,\"unreported\":%lu", is_told, all.packets[0], all.packets[1], all.packets[2],
-             all.packets[3], all.octets[0], all.octets[1], all.octets[2], all.octets[3], all.reported, all.unreported);
+             "\"unreported\":%lu", is_told, all.packets[0], all.packets[1], all.packets[2], all.packets[3], all.octets[0],
+             all.octets[1], all.octets[2], all.octets[3], all.unreported);
 }
 
 /* Writes a metric, each number behind its label. */
@@ -72,7 +70,6 @@ void write_metrics(void) {
     put(to, "pcef_packets_without_session_total", "counter", "Packets of no user.", 1, LABELS, &without);
     put(to, "pcef_passed_bytes_total", "counter", "Octets that passed.", 2, LABELS + 5, all.octets);
     put(to, "pcef_dropped_bytes_total", "counter", "Octets that didn't pass.", 2, LABELS + 5, all.octets + 2);
-    put(to, "pcef_reported_bytes_total", "counter", "Octets that usage reports have.", 1, LABELS, &all.reported);
     put(to, "pcef_unreported_bytes", "gauge", "Octets that aren't reported yet.", 1, LABELS, &all.unreported);
     put(to, "pcef_gx_requests_total", "counter", "CCRs that went out.", 4, LABELS + 7, out);
     if (!fclose(to)) rename(path, settings.metrics);

@@ -1,19 +1,15 @@
 /* Workers and their session: calls that name both, each under the session's lock. */
 #include "gateway.h"
 
-/* Whether a session's rows or commands come to their end. The rows that wait now still have room. */
-static int ends_soon(user *of) {
-    unsigned waiting = BATCH * (unsigned)settings.workers;
-    return pcef_rows_left(of->session) < 2 * waiting || pcef_commands_left(of->session) < 64;
-}
-
-/* Hands a lane's rows over. Returns whether they count now; where not, they wait on. */
+/* Hands a lane's rows over. Returns whether they count now; where not, they wait on. Where the session's rows or commands
+ * come to their end, with room for the rows that wait now, a renewal is due. */
 int hand_over(user *of, lane *of_worker) {
     pthread_mutex_lock(&of->lock);
     uint64_t next = pcef_flush(of->session, of_worker->worker);
     int counts = !pcef_is_refused(next), is_due = counts && next > of->next_report;
     if (is_due) of->next_report = next;
-    if (counts && ends_soon(of) && !atomic_exchange(&of->is_full, 1)) is_due = 1;
+    int ends = pcef_rows_left(of->session) < 2u * BATCH * (unsigned)settings.workers || pcef_commands_left(of->session) < 16;
+    if (counts && ends && !atomic_exchange(&of->is_full, 1)) is_due = 1;
     pthread_mutex_unlock(&of->lock);
     if (is_due) post((event){.kind = CCR_IS_DUE, .number = of->number});
     return counts;
