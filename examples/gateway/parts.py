@@ -101,12 +101,19 @@ class Place:
     """The namespaces, and all that runs in them; a context that leaves nothing behind."""
 
     def __init__(self, devices=1):
-        self.name, self.devices, self.started = f"pcef{os.getpid()}", devices, []
+        self.name, self.started = f"pcef{os.getpid()}", []
+        self.is_busy, self.is_interrupted = False, False
         self.spaces = ["gw", "pcrf", "net", *(f"u{n}" for n in range(1, devices + 1))]
+
+    def interrupt(self, *_):
+        """Ends the play, but not between a process that begins and the list of those that began, nor amid the end."""
+        self.is_interrupted = True
+        if not self.is_busy:
+            sys.exit(1)
 
     def __enter__(self):
         for number in (signal.SIGINT, signal.SIGTERM):
-            signal.signal(number, lambda *_: sys.exit(1))
+            signal.signal(number, self.interrupt)
         self.folder = tempfile.mkdtemp(prefix=f"{self.name}.")
         try:
             for space in self.spaces:
@@ -126,6 +133,7 @@ class Place:
         return self
 
     def __exit__(self, *_):
+        self.is_busy = True
         for process in reversed(self.started):
             process.kill()
             process.wait()
@@ -139,9 +147,12 @@ class Place:
     def start(self, space, *words, **how):
         """A process that ends with this one, whatever ends it."""
         how = {"cwd": self.folder, "stdout": subprocess.DEVNULL, "stderr": subprocess.DEVNULL, "text": True, **how}
-        process = subprocess.Popen(["setpriv", "--pdeathsig", "KILL", *self.inside(space, *words)], **how)
-        self.started.append(process)
-        return process
+        self.is_busy = True
+        self.started.append(subprocess.Popen(["setpriv", "--pdeathsig", "KILL", *self.inside(space, *words)], **how))
+        self.is_busy = False
+        if self.is_interrupted:
+            sys.exit(1)
+        return self.started[-1]
 
     def device(self, space):
         return f"{self.name}{space}"
