@@ -91,7 +91,8 @@ impl Table {
 
     /// Copies of the rules of the entries, in precedence order. Fails when out of memory.
     pub fn sources(&self, alloc: Global) -> Result<Vec<Source>, AllocError>
-        ensures { IfOk result (λ v. v.items ≡ map (λ e. e.source) self.now.entries) }
+        ensures sources { IfOk result (λ v. v.items ≡ map (λ e. e.source) self.now.entries) }
+        ensures most { IfOk result (λ v. length v.items ≤ most_entries) }
     {
         copy_sources(alloc, self.entries())
     }
