@@ -4,7 +4,7 @@ ghost use Rattle.std.specs.Prelude.{◌≡◌, ◌+◌, ◌<◌, ◌^◌, length
 ghost use Rattle.pcef_model.specs.Entries.{lane};
 ghost use Rattle.pcef_model.specs.Journals.{lane_len};
 ghost use Rattle.pcef_model.specs.Lawful.{newest_generation};
-ghost use Rattle.pcef_lock.specs.Lanes.{continues, is_next};
+ghost use Rattle.pcef_handover.specs.Lanes.{continues, is_next};
 
 use pcef_journaled::JournaledState;
 use pcef_lane::LaneEnd;
@@ -12,7 +12,7 @@ use pcef_model::Row;
 use pcef_session::Item;
 
 /// Where the lane of a worker ends. A worker that was never attached has no rows.
-pub(crate) fn end_of(session: &JournaledState, worker: u8) -> LaneEnd
+pub fn end_of(session: &JournaledState, worker: u8) -> LaneEnd
     ensures rows { result.rows ≡ lane_len session.now.session.journal worker }
     ensures generation { result.newest_generation
         ≡ newest_generation (lane session.now.session.journal worker) }
@@ -35,7 +35,7 @@ fn is_next(row: &Row, worker: u8, rows: u64, generation: u32) -> bool
 }
 
 /// Whether rows may come next, one after the other.
-pub(crate) fn continues(items: &[Item], worker: u8, end: LaneEnd) -> bool
+pub fn continues(items: &[Item], worker: u8, end: LaneEnd) -> bool
     requires { end.rows + length items.now < 2 ^ 64 }
     ensures { result ≡ continues worker end.rows end.newest_generation items.now }
 {

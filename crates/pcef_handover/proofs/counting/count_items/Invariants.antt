@@ -1,7 +1,7 @@
 use Rattle.std.proofs.Common.{◌≡◌, ◌≤◌, ◌<◌, ◌+◌, ◌*◌, ℕ, length, drop}
 use Rattle.std.specs.Prelude.{slice_index}
-use Rattle.pcef_lock.specs.Counting.{with_items}
-use Rattle.pcef_lock.proofs.counting.count_items.Given as goal
+use Rattle.pcef_handover.specs.Counting.{with_items}
+use Rattle.pcef_handover.proofs.counting.count_items.Given as goal
 
 abbrev pub invariant-loop-item : goal.invariant-loop-item
 invariant-loop-item g l = record {

@@ -1,7 +1,7 @@
 use Rattle.std.proofs.Common.{rules}
 use Rattle.pcef_session.specs.Following.{row_of}
-use Rattle.pcef_lock.proofs.Compared.{mapped_here}
-use Rattle.pcef_lock.proofs.gathering.is_lane.Goals as goal
+use Rattle.pcef_handover.proofs.Compared.{mapped_here}
+use Rattle.pcef_handover.proofs.comparing.is_lane.Goals as goal
 
 pub returns-in_default : goal.returns-in_default
 returns-in_default c =

@@ -1,6 +1,6 @@
 use Rattle.std.proofs.Common.{◌≡◌, ◌+◌, drop}
-use Rattle.pcef_lock.specs.Lanes.{continues}
-use Rattle.pcef_lock.proofs.lanes.continues.Given as goal
+use Rattle.pcef_handover.specs.Lanes.{continues}
+use Rattle.pcef_handover.proofs.lanes.continues.Given as goal
 
 abbrev pub invariant-loop-item : goal.invariant-loop-item
 invariant-loop-item l = record {

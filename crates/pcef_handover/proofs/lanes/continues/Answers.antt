@@ -1,7 +1,7 @@
 use Rattle.std.proofs.Common.{rules, ◌≡◌, true, false, sym, arith}
-use Rattle.pcef_lock.specs.Lanes.{is_next}
-use Rattle.pcef_lock.proofs.Loops.{continued_end, continued_not, continued_step}
-use Rattle.pcef_lock.proofs.lanes.continues.Goals as goal
+use Rattle.pcef_handover.specs.Lanes.{is_next}
+use Rattle.pcef_handover.proofs.Loops.{continued_end, continued_not, continued_step}
+use Rattle.pcef_handover.proofs.lanes.continues.Goals as goal
 
 pub returns-then-not-is_next : goal.returns-then-not-is_next
 returns-then-not-is_next c =

@@ -3,9 +3,9 @@ use Rattle.std.specs.Prelude.{slice_index}
 use Rattle.pcef_session.specs.declared.batch.Item.{Item}
 use Rattle.pcef_share.specs.Amounts.{Account}
 use Rattle.pcef_model.specs.Slots.{AreSlotsBelow}
-use Rattle.pcef_lock.proofs.Counted.{item_length, item_row, item_within}
-use Rattle.pcef_lock.proofs.Loops.{account_is, counted_end, counted_step}
-use Rattle.pcef_lock.proofs.counting.count_items.Goals as goal
+use Rattle.pcef_handover.proofs.Slots.{item_length, item_row, item_within}
+use Rattle.pcef_handover.proofs.Loops.{account_is, counted_end, counted_step}
+use Rattle.pcef_handover.proofs.counting.count_items.Goals as goal
 
 pub loop-item-preserved : goal.loop-item-preserved
 loop-item-preserved g c =

@@ -4,7 +4,7 @@ ghost use Rattle.std.specs.Prelude.{◌≡◌, ◌+◌, ◌*◌, ◌<◌, ◌≤
 ghost use Rattle.pcef_model.specs.Slots.{AreSlotsBelow};
 ghost use Rattle.pcef_session.specs.Following.{HasSmallRows};
 ghost use Rattle.pcef_share.specs.Amounts.{row_ledger};
-ghost use Rattle.pcef_lock.specs.Counting.{with_item, with_items, with_slots};
+ghost use Rattle.pcef_handover.specs.Counting.{with_item, with_items, with_slots};
 
 use pcef_rule::Slot;
 use pcef_session::Item;
@@ -29,7 +29,7 @@ fn count_octets<N: Naming>(
 }
 
 /// Counts a row.
-#[tactic(auto, using(crate::proofs::Counted::slots_keep))]
+#[tactic(auto, using(crate::proofs::Slots::slots_keep))]
 fn count_item<N: Naming>(books: &mut Books<N>, shares: &mut Shares<N>, item: &Item)
     requires low { AreSlotsBelow 8 item.now.slots.items }
     requires fits { (n : ℕ) → n < 8 →
@@ -48,7 +48,7 @@ fn count_item<N: Naming>(books: &mut Books<N>, shares: &mut Shares<N>, item: &It
 }
 
 /// Counts rows.
-pub(crate) fn count_items<N: Naming>(books: &mut Books<N>, shares: &mut Shares<N>, items: &[Item])
+pub fn count_items<N: Naming>(books: &mut Books<N>, shares: &mut Shares<N>, items: &[Item])
     requires low { All (λ i. AreSlotsBelow 8 i.slots.items) items.now }
     requires octets { HasSmallRows items.now }
     requires ten { length books.old.totals ≡ 10 }

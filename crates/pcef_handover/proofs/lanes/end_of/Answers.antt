@@ -1,6 +1,6 @@
 use Rattle.std.proofs.Common.{ap, length, sym}
 use Rattle.pcef_model.specs.Lawful.{newest_generation}
-use Rattle.pcef_lock.proofs.lanes.end_of.Goals as goal
+use Rattle.pcef_handover.proofs.lanes.end_of.Goals as goal
 
 pub returns-in-None-clause-rows : goal.returns-in-None-clause-rows
 returns-in-None-clause-rows c =

@@ -1,8 +1,8 @@
 use Rattle.std.proofs.Common.{◌∙◌, List, ap}
 use Rattle.pcef_rule.specs.declared.quantity.Slot.{Slot}
 use Rattle.pcef_share.specs.Amounts.{Account}
-use Rattle.pcef_lock.proofs.Loops.{account_is, slots_end, slots_here, slots_step, takes_here, takes_later}
-use Rattle.pcef_lock.proofs.counting.count_octets.Goals as goal
+use Rattle.pcef_handover.proofs.Loops.{account_is, slots_end, slots_here, slots_step, takes_here, takes_later}
+use Rattle.pcef_handover.proofs.counting.count_octets.Goals as goal
 
 pub add-requires : goal.add-requires
 add-requires g c =

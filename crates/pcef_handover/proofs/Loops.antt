@@ -9,9 +9,9 @@ use Rattle.pcef_model.specs.Slots.{AreSlotsBelow, is_one_of}
 use Rattle.pcef_usage.proofs.Places.{or_more}
 use Rattle.pcef_session.specs.declared.batch.Item.{Item}
 use Rattle.pcef_share.specs.Amounts.{Account, plus}
-use Rattle.pcef_lock.specs.Counting.{with_item, with_items, with_slots}
-use Rattle.pcef_lock.specs.Lanes.{continues, is_next}
-use Rattle.pcef_lock.proofs.Ledgers.{plus_other}
+use Rattle.pcef_handover.specs.Counting.{with_item, with_items, with_slots}
+use Rattle.pcef_handover.specs.Lanes.{continues, is_next}
+use Rattle.pcef_handover.proofs.Ledgers.{plus_other}
 
 pub split_here : (items : List Item) (i : ℕ) (item : Item) → i < length items → item ≡ get_or items i item → drop i items ≡ item ∷ drop (i + 1) items
 split_here items i item within is = drop_more items i item within ∙ ap (λ (x : Item). x ∷ drop (i + 1) items) (sym is)

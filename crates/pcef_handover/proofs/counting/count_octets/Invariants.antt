@@ -1,8 +1,8 @@
 use Rattle.std.proofs.Common.{◌≡◌, drop}
 use Rattle.pcef_model.specs.Slots.{AreSlotsBelow}
-use Rattle.pcef_lock.specs.Counting.{with_slots}
-use Rattle.pcef_lock.proofs.Loops.{TakeMore}
-use Rattle.pcef_lock.proofs.counting.count_octets.Given as goal
+use Rattle.pcef_handover.specs.Counting.{with_slots}
+use Rattle.pcef_handover.proofs.Loops.{TakeMore}
+use Rattle.pcef_handover.proofs.counting.count_octets.Given as goal
 
 -- what is left can be counted, and leaves what all the slots leave
 abbrev pub invariant-loop-slot : goal.invariant-loop-slot
