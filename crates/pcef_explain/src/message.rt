@@ -126,23 +126,15 @@ impl Message {
 
     /// Writes what may stand at a field.
     pub(crate) fn expectation(&mut self, wanted: Wanted) {
+        self.text(wanted.text());
         match wanted {
             Wanted::Number(least, most) => {
-                self.text("a whole number from ");
                 self.number(least as usize);
                 self.text(" to ");
                 self.number(most as usize);
             }
-            Wanted::Flag => self.text("true or false"),
-            Wanted::Name => self.text("a text of 1 to 64 characters without blanks"),
-            Wanted::Word(words) => {
-                self.text("one of ");
-                self.words(words);
-            }
-            Wanted::Octets => self.text("a text of pairs of hexadecimal digits"),
-            Wanted::Text => self.text("a text"),
-            Wanted::Object => self.text("an object"),
-            Wanted::List => self.text("a list"),
+            Wanted::Word(words) => self.words(words),
+            _ => {}
         }
     }
 

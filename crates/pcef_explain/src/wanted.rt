@@ -93,6 +93,20 @@ pub(crate) fn wanted_at(field: Field) -> Wanted {
 }
 
 impl Wanted {
+    /// What it is in words, or how these begin.
+    pub(crate) fn text(self) -> &'static str {
+        match self {
+            Wanted::Number(_, _) => "a whole number from ",
+            Wanted::Flag => "true or false",
+            Wanted::Name => "a text of 1 to 64 characters without blanks",
+            Wanted::Word(_) => "one of ",
+            Wanted::Octets => "a text of pairs of hexadecimal digits",
+            Wanted::Text => "a text",
+            Wanted::Object => "an object",
+            Wanted::List => "a list",
+        }
+    }
+
     /// Whether a value is of the kind and in the range. Names and octets are judged elsewhere.
     pub(crate) fn is(self, value: &Value) -> bool {
         match self {

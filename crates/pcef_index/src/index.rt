@@ -51,17 +51,6 @@ impl Model for Index {
     ghost invariant = { λ i. IsIndexed i.sources.items i.sieve };
 }
 
-/// Copies of the rules of entries.
-fn copies(alloc: Global, entries: &[TableEntry]) -> Result<Vec<Source>, AllocError>
-    ensures { IfOk result (λ v. v.items ≡ map (λ e. e.source) entries.now) }
-{
-    let mut sources = Vec::with_capacity(alloc, entries.len())?;
-    for entry in entries {
-        sources.push(entry.source.copy()?)?;
-    }
-    Ok(sources)
-}
-
 /// Appends a place if its rule passes.
 fn push_if(places: &mut ArrayVec<u8, 64>, place: u8, passes: bool)
     requires { length places.old.items < 64 }
@@ -151,7 +140,7 @@ impl Index {
     pub fn build<C: Offers>(alloc: Global, table: &Table, _catalog: &C) -> Result<Index, AllocError>
         ensures { IfOk result (λ i. i ≡ map (λ e. e.source) table.now.entries) }
     {
-        let sources = copies(alloc, table.entries())?;
+        let sources = table.sources(alloc)?;
         index_of(alloc, sources)
     }
 

@@ -11,7 +11,7 @@ use Rattle.pcef_model.specs.Journals.{verdict_at, lane_len, tables}
 use Rattle.pcef_session.specs.declared.batch.Item.{Item}
 use Rattle.pcef_model.specs.Lawful.{BatchFollows, RowsFollow, newest_generation}
 use Rattle.pcef_session.specs.Following.{row_of}
-use Rattle.pcef_lock.specs.Lanes.{continues, is_next}
+use Rattle.pcef_handover.specs.Lanes.{continues, is_next}
 use Rattle.pcef_lock.proofs.Judged.{IsRight}
 
 pub record IsNext (worker seq generation : ℕ) (r : Row) : Type 0 where

@@ -11,12 +11,12 @@ use Rattle.pcef_model.specs.Journals.{attach_count, counted, counts, octets_of, 
 use Rattle.pcef_model.specs.Lawful.{Lawful}
 use Rattle.pcef_session.specs.SessionModel.{SessionModel}
 use Rattle.pcef_share.specs.Amounts.{command_ledger, plus, zeros}
-use Rattle.pcef_lock.specs.Counting.{AreCounted, slot_total}
+use Rattle.pcef_handover.specs.Counting.{AreCounted, slot_total}
 use Rattle.pcef_lock.specs.Published.{ArePublished}
 use Rattle.pcef_lock.specs.private.Soundness.{IsSound}
 use Rattle.pcef_model.proofs.NewLanes.{lawful_numbered}
 use Rattle.pcef_lock.proofs.Keeps.{locked}
-use Rattle.pcef_lock.proofs.Ledgers.{length_plus, plus_other, plus_same}
+use Rattle.pcef_handover.proofs.Ledgers.{length_plus, plus_other, plus_same}
 
 no_rows : (rs : List Row) → All (λ (r : Row). r.worker < 0) rs → rs ≡ []
 no_rows [] below = refl

@@ -4,10 +4,10 @@ use Rattle.std.proofs.lemmas.List.Sums.{sum_by-cons}
 use Rattle.pcef_rule.specs.declared.quantity.Slot.{Slot}
 use Rattle.pcef_share.specs.Amounts.{added, command_ledger, plus, row_ledger, sums, zeros}
 use Rattle.pcef_session.specs.declared.batch.Item.{Item}
-use Rattle.pcef_lock.specs.Counting.{with_item, with_items, with_slots}
+use Rattle.pcef_handover.specs.Counting.{with_item, with_items, with_slots}
 use Rattle.pcef_lock.specs.Gathering.{gathered, octets_at, octets_for}
 use Rattle.pcef_lock.specs.HandedIn.{HandedIn}
-use Rattle.pcef_lock.proofs.Ledgers.{get_plus, length_plus, plus_other}
+use Rattle.pcef_handover.proofs.Ledgers.{get_plus, length_plus, plus_other}
 
 -- ---- shares, one after the other
 get_added : (xs ys : List ℕ) (k : ℕ) → k < length xs → get_or (added xs ys) k 0 ≡ get_or xs k 0 + get_or ys k 0

@@ -21,9 +21,9 @@ use Rattle.pcef_session.specs.declared.batch.Item.{Item}
 use Rattle.pcef_session.specs.Following.{HasItsSlots, HasSmallRows, row_of}
 use Rattle.pcef_session.specs.SessionModel.{SessionModel}
 use Rattle.pcef_share.specs.Amounts.{Account}
-use Rattle.pcef_lock.specs.Counting.{AreCounted, with_items}
+use Rattle.pcef_handover.specs.Counting.{AreCounted, with_items}
 use Rattle.pcef_lock.specs.Judging.{AllJudged}
-use Rattle.pcef_lock.specs.Lanes.{continues_lane}
+use Rattle.pcef_handover.specs.Lanes.{continues_lane}
 use Rattle.pcef_lock.specs.Published.{ArePublished}
 use Rattle.pcef_lock.specs.private.Soundness.{IsSound}
 use Rattle.pcef_lock.proofs.Continued.{batch_follows}

@@ -19,7 +19,7 @@ use Rattle.pcef_model.proofs.Decisive.{made_once}
 use Rattle.pcef_session.proofs.ShownVerdicts.{shown_judges}
 use Rattle.pcef_lock.specs.Judging.{AllJudged, IsJudged}
 use Rattle.pcef_lock.specs.Published.{ArePublished}
-use Rattle.pcef_lock.proofs.Ledgers.{get_within}
+use Rattle.pcef_lock.proofs.Places.{get_within}
 
 -- ---- as more tables are seen
 pub judged_later : (offers : List Offer) (ue : Addr) (first : ℕ) (seen more : List TableValue) (i : Item) → IsPrefix seen more → IsJudged offers ue first seen i → IsJudged offers ue first more i

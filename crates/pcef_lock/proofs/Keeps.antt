@@ -20,12 +20,12 @@ use Rattle.pcef_session.specs.SessionModel.{SessionModel}
 use Rattle.pcef_session.proofs.Acceptance.{changed_by, unchanged_by}
 use Rattle.pcef_session.proofs.CommandAgrees.{commands_after}
 use Rattle.pcef_share.specs.Amounts.{Account, command_ledger, plus}
-use Rattle.pcef_lock.specs.Counting.{AreCounted, one_more}
+use Rattle.pcef_handover.specs.Counting.{AreCounted, one_more}
 use Rattle.pcef_lock.specs.Locked.{Locked}
 use Rattle.pcef_lock.specs.Published.{ArePublished}
 use Rattle.pcef_lock.specs.private.Soundness.{IsSound}
 use Rattle.pcef_lock.proofs.Counted.{counted_command, counted_kept}
-use Rattle.pcef_lock.proofs.Ledgers.{plus_none}
+use Rattle.pcef_handover.proofs.Ledgers.{plus_none}
 use Rattle.pcef_lock.proofs.Publications.{next_table, published_command, published_same}
 
 abbrev pub locked : SessionModel → List TableValue → Account → ℕ → Locked

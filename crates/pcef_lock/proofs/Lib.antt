@@ -1,5 +1,4 @@
 pub mod Commanded
-pub mod Compared
 pub mod Continued
 pub mod Counted
 pub mod FirstState
@@ -8,9 +7,8 @@ pub mod Gathered
 pub mod Handing
 pub mod Judged
 pub mod Keeps
-pub mod Ledgers
-pub mod Loops
 pub mod Numbers
+pub mod Places
 pub mod PoolShares
 pub mod Publications
 pub mod Seats

@@ -18,7 +18,7 @@ use Rattle.pcef_session.specs.Preparing.{IsTableAfter}
 use Rattle.pcef_session.specs.Shown.{Shows}
 use Rattle.pcef_session.proofs.ShownLater.{shows_later, shows_same}
 use Rattle.pcef_lock.specs.Published.{ArePublished}
-use Rattle.pcef_lock.proofs.Ledgers.{get_end, get_left, get_within}
+use Rattle.pcef_lock.proofs.Places.{get_end, get_left, get_within}
 
 -- where no table command came
 pub published_same : (p : Setting) (j k : Journal) (first : ℕ) (ts : List TableValue) → tables k ≡ tables j → ArePublished p j first ts → ArePublished p k first ts

@@ -13,11 +13,11 @@ use Rattle.pcef_model.specs.Journals.{counted, reported, slots, unreported}
 use Rattle.pcef_model.specs.Lawful.{Lawful}
 use Rattle.pcef_model.proofs.Exactness.{lawful_exact}
 use Rattle.pcef_session.specs.Agreement.{KeyAgrees, KeysAgree}
-use Rattle.pcef_lock.specs.Counting.{slot_total}
+use Rattle.pcef_handover.specs.Counting.{slot_total}
 use Rattle.pcef_lock.specs.Gathering.{AreGathered, gathered, key_totals, total_of}
 use Rattle.pcef_lock.specs.HandedIn.{HandedIn}
 use Rattle.pcef_lock.specs.declared.key_totals.KeyTotal.{KeyTotal}
-use Rattle.pcef_lock.proofs.Ledgers.{get_within}
+use Rattle.pcef_lock.proofs.Places.{get_within}
 
 -- ---- one key after the other
 agrees_at : (p : Setting) (j : Journal) (states : List KeyState) (n : ℕ) (s : KeyState) → AllByRecursion (KeyAgrees p j) states → slice_get states n ≡ Some s → KeyAgrees p j s

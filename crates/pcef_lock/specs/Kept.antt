@@ -2,7 +2,7 @@
 use Rattle.std.specs.Prelude.{ℕ, ◌≡◌}
 use Rattle.pcef_core.specs.Keeping.{KeptBySession, SessionIsExact}
 use Rattle.pcef_model.specs.Setting.{Setting}
-use Rattle.pcef_lock.specs.Counting.{AreCounted}
+use Rattle.pcef_handover.specs.Counting.{AreCounted}
 use Rattle.pcef_lock.specs.Locked.{Locked}
 use Rattle.pcef_lock.specs.Published.{ArePublished}
 

@@ -1,11 +1,9 @@
 pub mod Outcomes
-pub mod Counting
 pub mod Desks
 pub mod Gathering
 pub mod HandedIn
 pub mod Judging
 pub mod Kept
-pub mod Lanes
 pub mod Locked
 pub mod Opening
 pub mod Published

@@ -17,7 +17,7 @@ use Rattle.pcef_session.specs.Following.{row_of}
 use Rattle.pcef_share.specs.Amounts.{Account}
 use Rattle.pcef_lock.specs.declared.leaving.LastFlush.{LastFlush}
 use Rattle.pcef_lock.specs.declared.seat.Seat.{Seat}
-use Rattle.pcef_lock.specs.Lanes.{continues_lane}
+use Rattle.pcef_handover.specs.Lanes.{continues_lane}
 use Rattle.pcef_lock.specs.Locked.{Locked}
 use Rattle.pcef_lock.specs.Seats.{seat_number}
 

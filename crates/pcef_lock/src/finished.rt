@@ -2,7 +2,7 @@
 
 ghost use Rattle.std.specs.Prelude.{◌≡◌, IfSome, is_some, length};
 ghost use Rattle.pcef_share.specs.Amounts.{zeros};
-ghost use Rattle.pcef_lock.specs.Counting.{with_items};
+ghost use Rattle.pcef_handover.specs.Counting.{with_items};
 ghost use Rattle.pcef_lock.specs.HandedIn.{abandoned_by};
 
 use crate::leaving::{Departure, Leaving};
@@ -33,7 +33,7 @@ impl<N: Naming> Drop for Finished<N> {
 impl<N: Naming> Model for Finished<N> {
     ghost use Rattle.std.specs.Prelude.{◌≡◌};
     ghost use Rattle.pcef_share.specs.Amounts.{zeros};
-    ghost use Rattle.pcef_lock.specs.Counting.{with_items};
+    ghost use Rattle.pcef_handover.specs.Counting.{with_items};
     ghost use Rattle.pcef_lock.specs.HandedIn.{HandedIn};
 
     ghost Value = { HandedIn };

@@ -10,11 +10,11 @@ ghost use Rattle.pcef_lock.specs.Gathering.{AgreeWith, AreCompared, CanGather, H
 
 use crate::finished::Finished;
 use crate::key_totals::KeyTotals;
-use crate::sameness::{is_same_command, is_same_row};
 use crate::worker_lists::WorkerLists;
-use pcef_journaled::{Archive, Commands, JournaledState, Lane};
+use pcef_handover::{are_commands, is_lane};
+use pcef_journaled::{Archive, JournaledState};
 use pcef_model::Command;
-use pcef_session::{Item, SessionState};
+use pcef_session::SessionState;
 use pcef_share::{Naming, NoPool, Pooling, RateShares};
 use thiserror::Error;
 
@@ -51,34 +51,6 @@ pub struct Totals<P: Pooling = NoPool> {
     pub lists: WorkerLists,
     /// The session's share of a pool in bit/s, where there is one.
     pub rates: Option<RateShares<P>>,
-}
-
-/// Whether these are the commands of a journal.
-pub(crate) fn are_commands(list: &[Command], commands: Commands<'_>) -> bool
-    ensures { IsTrue result ↔ (list.now ≡ commands.entry) }
-{
-    let mut commands = commands;
-    for listed in list {
-        match commands.next() {
-            Some(command) if is_same_command(listed, command) => {}
-            _ => return false,
-        }
-    }
-    commands.next().is_none()
-}
-
-/// Whether these are the rows of a lane.
-fn is_lane(items: &[Item], lane: Lane<'_>) -> bool
-    ensures { IsTrue result ↔ (map row_of items.now ≡ lane.entry) }
-{
-    let mut lane = lane;
-    for item in items {
-        match lane.next() {
-            Some(row) if is_same_row(&item.row, &row) => {}
-            _ => return false,
-        }
-    }
-    lane.next().is_none()
 }
 
 /// Whether the own lists of all workers are stored.

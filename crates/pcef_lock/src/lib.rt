@@ -4,23 +4,20 @@
 //! Its contracts say: what each hold of the lock finds, what each call in it answers and changes, and what all adds up
 //! to at the end.
 //!
-//! In the order of reading: `own_rows`, `leaving`, `key_totals`, `worker_lists`, `finished`, `pool`, `seat`, `sameness`, `gathering`,
-//! `counting`, `lanes`, `pooled_share`, `publishing`, `state`, `shared`, `desk`, `opening`.
+//! In the order of reading: `own_rows`, `leaving`, `key_totals`, `worker_lists`, `finished`, `pool`, `seat`, `gathering`,
+//! `pooled_share`, `publishing`, `state`, `shared`, `desk`, `opening`.
 #![tactic(auto)]
 
-mod counting;
 mod desk;
 mod finished;
 mod gathering;
 mod key_totals;
-mod lanes;
 mod leaving;
 mod opening;
 mod own_rows;
 mod pool;
 mod pooled_share;
 mod publishing;
-mod sameness;
 mod seat;
 mod shared;
 mod state;

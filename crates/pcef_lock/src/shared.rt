@@ -3,7 +3,7 @@
 ghost use Rattle.std.specs.Prelude.{◌≡◌, ◌≤◌, ◌+◌, ◌<◌, ◌^◌, IfErr, IfOk, is_some, length};
 ghost use Rattle.std.specs.Arc.{arc_value};
 ghost use Rattle.pcef_share.specs.Amounts.{zeros};
-ghost use Rattle.pcef_lock.specs.Counting.{with_command, with_taken};
+ghost use Rattle.pcef_handover.specs.Counting.{with_command, with_taken};
 ghost use Rattle.pcef_lock.specs.Desks.{IsDue};
 ghost use Rattle.pcef_lock.specs.Gathering.{AddUpTo, IsAtFault};
 ghost use Rattle.pcef_lock.specs.HandedIn.{abandoned_with, finished_with};

@@ -8,7 +8,7 @@ ghost use Rattle.pcef_model.specs.Journals.{attach_count};
 ghost use Rattle.pcef_model.specs.Lawful.{Lawful};
 ghost use Rattle.pcef_share.specs.Names.{name_at};
 ghost use Rattle.pcef_lock.specs.Outcomes.{AnswersSeat, with_share};
-ghost use Rattle.pcef_lock.specs.Counting.{books_with_command, with_command};
+ghost use Rattle.pcef_handover.specs.Counting.{books_with_command, with_command};
 ghost use Rattle.pcef_lock.specs.Desks.{desk_shares, first_books};
 ghost use Rattle.pcef_lock.specs.Kept.{HoldFinds, Kept};
 ghost use Rattle.pcef_pool.specs.Pools.{IsPart, pool_with, rates_due, room_beside};

@@ -5,8 +5,8 @@ ghost use Rattle.pcef_profile.specs.Explanations.{Explains};
 
 use crate::fault::ReadProfileFault;
 use crate::key::Key;
-use crate::shape::{Level, entry, inner, levels};
-use crate::wanted::{Shown, Wanted, is_plain, wanted_at};
+use crate::shape::{Level, entries, entry, inner, places_in, table_at};
+use crate::wanted::{Shown, is_plain, wanted_at};
 use std::alloc::{AllocError, Global};
 use toml::de::Error;
 use toml::{Table, Value};
@@ -66,88 +66,156 @@ fn unknown_key_text(alloc: Global, level: Level, text: &str) -> Result<String, A
     format!(in alloc; "{level}{text}: {keys} is expected")
 }
 
-/// The first key that a profile or a table in it may not have.
-fn unknown_key(alloc: Global, table: &Table) -> Result<Option<String>, AllocError> {
-    for (level, table) in levels(alloc, table)? {
-        if let Some(text) = unknown_in(level, table) {
-            return Ok(Some(unknown_key_text(alloc, level, text)?));
-        }
-    }
-    Ok(None)
-}
-
-/// The first key that a table lacks.
-fn missing_key(alloc: Global, table: &Table) -> Result<Option<String>, AllocError> {
-    for (level, table) in levels(alloc, table)? {
-        for key in level.required_keys() {
-            if entry(table, *key).is_none() {
-                let text = key.text();
-                let wanted = wanted_at(level, *key);
-                return Ok(Some(format!(in alloc; "{level}{text}: {wanted} is expected")?));
+/// The first key that a profile or a table in it may not have, and in which it stands.
+fn first_unknown(table: &Table) -> Option<(Level, &str)> {
+    for place in 0..places_in(table) {
+        if let Some((level, table)) = table_at(table, place) {
+            if let Some(text) = unknown_in(level, table) {
+                return Some((level, text));
             }
         }
     }
-    Ok(None)
+    None
 }
 
-fn value_text(
-    alloc: Global,
-    level: Level,
-    key: Key,
-    value: &Value,
-    wanted: Wanted,
-) -> Result<String, AllocError> {
+fn unknown_key(alloc: Global, table: &Table) -> Result<Option<String>, AllocError> {
+    match first_unknown(table) {
+        Some((level, text)) => Ok(Some(unknown_key_text(alloc, level, text)?)),
+        None => Ok(None),
+    }
+}
+
+/// The first key that a table must have and lacks.
+fn missing_in(level: Level, table: &Table) -> Option<Key> {
+    for key in level.required_keys() {
+        if entry(table, *key).is_none() {
+            return Some(*key);
+        }
+    }
+    None
+}
+
+/// The first key that a profile or a table in it lacks, and in which.
+fn first_missing(table: &Table) -> Option<(Level, Key)> {
+    for place in 0..places_in(table) {
+        if let Some((level, table)) = table_at(table, place) {
+            if let Some(key) = missing_in(level, table) {
+                return Some((level, key));
+            }
+        }
+    }
+    None
+}
+
+fn missing_key_text(alloc: Global, level: Level, key: Key) -> Result<String, AllocError> {
+    let text = key.text();
+    let wanted = wanted_at(level, key);
+    format!(in alloc; "{level}{text}: {wanted} is expected")
+}
+
+fn missing_key(alloc: Global, table: &Table) -> Result<Option<String>, AllocError> {
+    match first_missing(table) {
+        Some((level, key)) => Ok(Some(missing_key_text(alloc, level, key)?)),
+        None => Ok(None),
+    }
+}
+
+/// The first value in a table of a wrong kind or out of its range, and its key.
+fn wrong_in(level: Level, table: &Table) -> Option<(Key, &Value)> {
+    for key in level.keys() {
+        if let Some(value) = entry(table, *key) {
+            if !wanted_at(level, *key).is(value) {
+                return Some((*key, value));
+            }
+        }
+    }
+    None
+}
+
+/// The first value in a profile or a table in it of a wrong kind or out of its range, and where it stands.
+fn first_wrong(table: &Table) -> Option<(Level, Key, &Value)> {
+    for place in 0..places_in(table) {
+        if let Some((level, table)) = table_at(table, place) {
+            if let Some((key, value)) = wrong_in(level, table) {
+                return Some((level, key, value));
+            }
+        }
+    }
+    None
+}
+
+fn value_text(alloc: Global, level: Level, key: Key, value: &Value) -> Result<String, AllocError> {
     let text = key.text();
     let found = Shown(value);
+    let wanted = wanted_at(level, key);
     format!(in alloc; "{level}{text} = {found}: {wanted} is expected")
 }
 
-/// The first value of a wrong kind or out of its range.
-fn value_out_of_range(alloc: Global, table: &Table) -> Result<Option<String>, AllocError> {
-    for (level, table) in levels(alloc, table)? {
-        for key in level.keys() {
-            if let Some(value) = entry(table, *key) {
-                let wanted = wanted_at(level, *key);
-                if !wanted.is(value) {
-                    return Ok(Some(value_text(alloc, level, *key, value, wanted)?));
-                }
-            }
-        }
-    }
-    Ok(None)
+/// The QCI of a declaration, if it is a table that has one.
+fn qci_of(declared: &Value) -> Option<i64> {
+    entry(declared.as_table()?, Key::Qci)?.as_integer()
 }
 
-/// The first entry of an array that is no table, or has the QCI of an earlier one.
-fn entry_at_fault(alloc: Global, values: &[Value]) -> Result<Option<String>, AllocError> {
-    let mut seen = Vec::new(alloc);
-    let mut number = 0usize;
-    for value in values {
-        number = number.saturating_add(1);
-        let Some(inner) = value.as_table() else {
-            let found = Shown(value);
-            return Ok(Some(format!(in alloc;
-                "declared[{number}] = {found}: a table is expected"
-            )?));
-        };
-        if let Some(qci) = entry(inner, Key::Qci).and_then(|value| value.as_integer()) {
-            if seen.contains(&qci) {
-                return Ok(Some(format!(in alloc;
-                    "declared[{number}].qci = {qci}: each QCI once is expected"
-                )?));
-            }
-            seen.push(qci)?;
+/// Whether one of the first declarations has this QCI.
+fn is_among_first(values: &[Value], count: usize, qci: i64) -> bool {
+    values
+        .iter()
+        .take(count)
+        .any(|value| qci_of(value) == Some(qci))
+}
+
+/// Why an entry of the array of declared QCIs is at fault.
+#[derive(Clone, Copy)]
+enum Misfit<'a> {
+    /// It is no table.
+    NoTable(&'a Value),
+    /// An earlier one has its QCI.
+    Again(i64),
+}
+
+fn misfit_of<'a>(values: &[Value], place: usize, value: &'a Value) -> Option<Misfit<'a>> {
+    if !value.is_table() {
+        return Some(Misfit::NoTable(value));
+    }
+    match qci_of(value) {
+        Some(qci) if is_among_first(values, place, qci) => Some(Misfit::Again(qci)),
+        _ => None,
+    }
+}
+
+/// The first entry of an array that is no table, or has the QCI of an earlier one: its number, from 1 on, and why.
+fn first_misfit(values: &[Value]) -> Option<(usize, Misfit<'_>)> {
+    for (place, value) in values.iter().enumerate() {
+        if let Some(misfit) = misfit_of(values, place, value) {
+            return Some((place.saturating_add(1), misfit));
         }
     }
-    Ok(None)
+    None
+}
+
+fn misfit_text(alloc: Global, number: usize, misfit: Misfit<'_>) -> Result<String, AllocError> {
+    match misfit {
+        Misfit::NoTable(value) => {
+            let found = Shown(value);
+            format!(in alloc; "declared[{number}] = {found}: a table is expected")
+        }
+        Misfit::Again(qci) => {
+            format!(in alloc; "declared[{number}].qci = {qci}: each QCI once is expected")
+        }
+    }
+}
+
+fn entry_at_fault(alloc: Global, table: &Table) -> Result<Option<String>, AllocError> {
+    match entries(table, Key::Declared).and_then(|values| first_misfit(values)) {
+        Some((number, misfit)) => Ok(Some(misfit_text(alloc, number, misfit)?)),
+        None => Ok(None),
+    }
 }
 
 fn bad_value(alloc: Global, table: &Table) -> Result<Option<String>, AllocError> {
-    if let Some(message) = value_out_of_range(alloc, table)? {
-        return Ok(Some(message));
-    }
-    match entry(table, Key::Declared).and_then(|value| value.as_array()) {
-        Some(values) => entry_at_fault(alloc, values.as_slice()),
-        None => Ok(None),
+    match first_wrong(table) {
+        Some((level, key, value)) => Ok(Some(value_text(alloc, level, key, value)?)),
+        None => entry_at_fault(alloc, table),
     }
 }
 
@@ -181,16 +249,24 @@ fn of_table(
     }
 }
 
-/// What is found and expected at the place of a fault.
-fn details(alloc: Global, text: &str, fault: ReadProfileFault) -> Result<String, AllocError> {
-    let message = match toml::table_from_str(alloc, text) {
-        Ok(table) => of_table(alloc, &table, fault)?,
-        Err(error) if error.is_memory() => return Err(AllocError),
-        Err(error) => Some(not_toml(alloc, text, &error)?),
-    };
+/// The message, or what the fault means where there is none.
+fn message_or_meaning(
+    alloc: Global,
+    message: Option<String>,
+    fault: ReadProfileFault,
+) -> Result<String, AllocError> {
     match message {
         Some(message) => Ok(message),
         None => format!(in alloc; "{fault}"),
+    }
+}
+
+/// What is found and expected at the place of a fault.
+fn details(alloc: Global, text: &str, fault: ReadProfileFault) -> Result<String, AllocError> {
+    match toml::table_from_str(alloc, text) {
+        Ok(table) => message_or_meaning(alloc, of_table(alloc, &table, fault)?, fault),
+        Err(error) if error.is_memory() => Err(AllocError),
+        Err(error) => not_toml(alloc, text, &error),
     }
 }
 

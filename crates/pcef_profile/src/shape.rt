@@ -7,7 +7,6 @@ ghost use Rattle.pcef_lists.specs.Readings.{if_there, names_one_of};
 ghost use Rattle.pcef_profile.specs.ProfileKeys.{key_text, keys_of_declared, inner_of, entries_of, each_table, keys_known, keys_there, is_known, is_whole};
 
 use crate::key::Key;
-use std::alloc::{AllocError, Global};
 use std::fmt::{self, Display, Formatter, Write};
 use toml::{Table, Value};
 
@@ -50,7 +49,7 @@ pub(crate) fn inner(table: &Table, key: Key) -> Option<&Table>
 }
 
 /// The array at a key, likewise.
-fn entries(table: &Table, key: Key) -> Option<&[Value]>
+pub(crate) fn entries(table: &Table, key: Key) -> Option<&[Value]>
     ensures { option_map (λ vs. items_view vs.now) result ≡ entries_of key (table_view table.now) }
 {
     match entry(table, key)?.as_array() {
@@ -178,38 +177,29 @@ impl Display for Level {
     }
 }
 
-/// Adds a table of a profile, if it is there.
-fn add<'a>(
-    levels: &mut Vec<(Level, &'a Table)>,
-    level: Level,
-    table: Option<&'a Table>,
-) -> Result<(), AllocError> {
-    if let Some(table) = table {
-        levels.push((level, table))?;
+/// How many places tables may have in a profile: its own, two for those in it, and one for each declaration.
+pub(crate) fn places_in(table: &Table) -> usize {
+    match entries(table, Key::Declared) {
+        Some(values) => values.len().saturating_add(3),
+        None => 3,
     }
-    Ok(())
 }
 
-/// Adds the entries of the array of declared QCIs that are tables.
-fn add_declared<'a>(
-    levels: &mut Vec<(Level, &'a Table)>,
-    values: &'a [Value],
-) -> Result<(), AllocError> {
-    for (place, value) in values.iter().enumerate() {
-        let level = Level::Declared(place.saturating_add(1));
-        add(levels, level, value.as_table())?;
-    }
-    Ok(())
+/// The declaration at a place, counted from 0, if it is a table.
+fn declared_at(table: &Table, place: usize) -> Option<&Table> {
+    entries(table, Key::Declared)?.get(place)?.as_table()
 }
 
-/// The tables of a profile that are there.
-pub(crate) fn levels(alloc: Global, table: &Table) -> Result<Vec<(Level, &Table)>, AllocError> {
-    let mut levels = Vec::new(alloc);
-    levels.push((Level::Profile, table))?;
-    add(&mut levels, Level::Default, inner(table, Key::Default))?;
-    add(&mut levels, Level::Capacity, inner(table, Key::Capacity))?;
-    if let Some(values) = entries(table, Key::Declared) {
-        add_declared(&mut levels, values)?;
+/// The table at a place of a profile, if it is there: the profile, what its keys `default` and `capacity` have, and
+/// then its declarations.
+pub(crate) fn table_at(table: &Table, place: usize) -> Option<(Level, &Table)> {
+    match place {
+        0 => Some((Level::Profile, table)),
+        1 => Some((Level::Default, inner(table, Key::Default)?)),
+        2 => Some((Level::Capacity, inner(table, Key::Capacity)?)),
+        place => {
+            let declared = declared_at(table, place.saturating_sub(3))?;
+            Some((Level::Declared(place.saturating_sub(2)), declared))
+        }
     }
-    Ok(levels)
 }

@@ -68,18 +68,28 @@ impl Wanted {
     }
 }
 
+impl Wanted {
+    /// The same in words, without the limits of a number.
+    fn text(self) -> &'static str {
+        match self {
+            Wanted::Address => "an address in quotes, as \"10.0.0.2\" or \"2001:db8::2\",",
+            Wanted::Number(_, _) => "a whole number",
+            Wanted::Rate(_) => "a whole number of bit/s",
+            Wanted::Flag => "true or false",
+            Wanted::Kind => "\"GBR\" or \"NON-GBR\"",
+            Wanted::Table => "a table",
+            Wanted::Tables => "an array of tables",
+        }
+    }
+}
+
 impl Display for Wanted {
     fn fmt<W: Write>(&self, f: &mut Formatter<W>) -> fmt::Result {
+        f.write_str(self.text())?;
         match self {
-            Wanted::Address => f.write_str(
-                "an address in quotes, as \"10.0.0.2\" or \"2001:db8::2\",",
-            ),
-            Wanted::Number(least, most) => write!(f, "a whole number from {least} to {most}"),
-            Wanted::Rate(most) => write!(f, "a whole number of bit/s from 0 to {most}"),
-            Wanted::Flag => f.write_str("true or false"),
-            Wanted::Kind => f.write_str("\"GBR\" or \"NON-GBR\""),
-            Wanted::Table => f.write_str("a table"),
-            Wanted::Tables => f.write_str("an array of tables"),
+            Wanted::Number(least, most) => write!(f, " from {least} to {most}"),
+            Wanted::Rate(most) => write!(f, " from 0 to {most}"),
+            _ => Ok(()),
         }
     }
 }
@@ -100,20 +110,27 @@ pub(crate) fn is_plain(text: &str) -> bool {
 #[derive(Clone, Copy)]
 pub(crate) struct Shown<'a>(pub &'a Value);
 
+/// The kind of a value, in words.
+fn kind_of(value: &Value) -> &'static str {
+    match value {
+        Value::String(_) => "a string",
+        Value::Integer(_) => "a whole number",
+        Value::Boolean(_) => "a flag",
+        Value::Float(_) => "a number with a point or an exponent",
+        Value::Datetime(_) => "a date or a time",
+        Value::Array(_) => "an array",
+        Value::Table(_) => "a table",
+    }
+}
+
 impl Display for Shown<'_> {
     fn fmt<W: Write>(&self, f: &mut Formatter<W>) -> fmt::Result {
         match self.0 {
-            Value::String(text) if text.len() > MOST_SHOWN => {
-                let count = text.len();
-                write!(f, "a string of {count} bytes")
-            }
-            Value::String(text) => write!(f, "{:?}", text.as_str()),
+            Value::String(text) if text.len() <= MOST_SHOWN => write!(f, "{:?}", text.as_str()),
             Value::Integer(number) => write!(f, "{number}"),
             Value::Boolean(flag) => write!(f, "{flag}"),
-            Value::Float(_) => f.write_str("a number with a point or an exponent"),
-            Value::Datetime(_) => f.write_str("a date or a time"),
-            Value::Array(_) => f.write_str("an array"),
-            Value::Table(_) => f.write_str("a table"),
+            Value::String(text) => write!(f, "a string of {} bytes", text.len()),
+            value => f.write_str(kind_of(value)),
         }
     }
 }

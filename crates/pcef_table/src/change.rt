@@ -5,7 +5,7 @@ ghost use Rattle.pcef_table.specs.Sides.{stays};
 ghost use Rattle.pcef_table.specs.Sources.{IsKnown};
 ghost use Rattle.pcef_table.specs.Tables.{is_taken, placed, with_counting, without_taken};
 
-use crate::entry::TableEntry;
+use crate::entry::{Source, TableEntry};
 use pcef_catalog::Offers;
 use pcef_model::Command;
 use pcef_rule::Slot;
@@ -146,4 +146,15 @@ pub(crate) fn copy_counting(
         copies.push(copy_counting_one(entry, slot, on)?)?;
     }
     Ok(copies)
+}
+
+/// Copies of the rules of entries.
+pub(crate) fn copy_sources(alloc: Global, entries: &[TableEntry]) -> Result<Vec<Source>, AllocError>
+    ensures { IfOk result (λ v. v.items ≡ map (λ e. e.source) entries.now) }
+{
+    let mut sources = Vec::with_capacity(alloc, entries.len())?;
+    for entry in entries {
+        sources.push(entry.source.copy()?)?;
+    }
+    Ok(sources)
 }

@@ -7,9 +7,9 @@ ghost use Rattle.pcef_table.specs.Sources.{IsKnown, fits};
 ghost use Rattle.pcef_table.specs.Tables.{IsTable, StaysTable, most_entries, placed, with_counting, without, without_bearer, without_taken};
 ghost use Rattle.pcef_table.specs.Verdicts.{IsVerdict, slot_for};
 
-use crate::change::{copy_all, copy_counting, copy_with, copy_without_taken};
+use crate::change::{copy_all, copy_counting, copy_sources, copy_with, copy_without_taken};
 use crate::deciding::{first_fitting, gate_verdict, is_own, slot_of};
-use crate::entry::TableEntry;
+use crate::entry::{Source, TableEntry};
 use crate::session_slots::{Flags, slots_up, slots_with};
 use arrayvec::ArrayVec;
 use pcef_catalog::{Detects, Offers};
@@ -87,6 +87,14 @@ impl Table {
         ensures most { length result.now ≤ most_entries }
     {
         &self.entries
+    }
+
+    /// Copies of the rules of the entries, in precedence order. Fails when out of memory.
+    pub fn sources(&self, alloc: Global) -> Result<Vec<Source>, AllocError>
+        ensures sources { IfOk result (λ v. v.items ≡ map (λ e. e.source) self.now.entries) }
+        ensures most { IfOk result (λ v. length v.items ≤ most_entries) }
+    {
+        copy_sources(alloc, self.entries())
     }
 
     /// How many entries there are: 64 at most.

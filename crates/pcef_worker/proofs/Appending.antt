@@ -1,7 +1,7 @@
 -- What rows count, where one list was handed over after the other.
 use Rattle.std.proofs.Common.{◌≡◌, ℕ, List, [], ◌∷◌, ◌++◌, refl}
 use Rattle.pcef_session.specs.declared.batch.Item.{Item}
-use Rattle.pcef_lock.specs.Counting.{with_item, with_items}
+use Rattle.pcef_handover.specs.Counting.{with_item, with_items}
 
 pub with_items_append : (t : List ℕ) (xs ys : List Item) → with_items t (xs ++ ys) ≡ with_items (with_items t xs) ys
 unfolding with_items

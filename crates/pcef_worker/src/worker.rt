@@ -44,7 +44,7 @@ impl<C: Offers + Drop, N: Naming, G: Gate + Drop> Model for Worker<C, N, G> {
     ghost use Rattle.std.specs.Prelude.{◌≡◌};
     ghost use Rattle.std.specs.Arc.{arc_value};
     ghost use Rattle.pcef_share.specs.Amounts.{zeros};
-    ghost use Rattle.pcef_lock.specs.Counting.{with_items};
+    ghost use Rattle.pcef_handover.specs.Counting.{with_items};
     ghost use Rattle.pcef_lock.specs.Judging.{AllJudged};
     ghost use Rattle.pcef_worker.specs.Working.{WorkerModel};
 

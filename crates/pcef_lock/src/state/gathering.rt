@@ -3,7 +3,7 @@
 ghost use Rattle.std.specs.Prelude.{◌≡◌, ◌≤◌, ◌<◌, ◌∷◌, ℕ, IfErr, IfOk, Some, length, map, slice_index};
 ghost use Rattle.pcef_model.specs.Journals.{attach_count};
 ghost use Rattle.pcef_share.specs.Amounts.{zeros};
-ghost use Rattle.pcef_lock.specs.Counting.{slot_total, with_items};
+ghost use Rattle.pcef_handover.specs.Counting.{slot_total, with_items};
 ghost use Rattle.pcef_lock.specs.Gathering.{AddUpTo, IsAtFault, key_totals};
 
 use super::State;

@@ -3,17 +3,16 @@
 ghost use Rattle.std.specs.Prelude.{◌≡◌, IfOk};
 ghost use Rattle.pcef_lock.specs.HandedIn.{abandoned_with, finished_with};
 ghost use Rattle.pcef_lock.specs.Outcomes.{AnswersHandOver, AnswersLeave, after_leaving, judged_rows};
-ghost use Rattle.pcef_lock.specs.Counting.{books_with_taken, with_taken};
+ghost use Rattle.pcef_handover.specs.Counting.{books_with_taken, with_taken};
 ghost use Rattle.pcef_lock.specs.Judging.{AllJudged};
-ghost use Rattle.pcef_lock.specs.Lanes.{continues_lane};
+ghost use Rattle.pcef_handover.specs.Lanes.{continues_lane};
 ghost use Rattle.pcef_lock.specs.Seats.{ChangesOnlyShares};
 ghost use mathlib.Core.List.{IsPrefix};
 
 use super::State;
-use crate::counting::count_items;
-use crate::lanes::{continues, end_of};
 use crate::leaving::{Departure, LastFlush, Leaving};
 use crate::seat::Seat;
+use pcef_handover::{continues, count_items, end_of};
 use pcef_model::{FlushRefusal, Verdicts};
 use pcef_publish::{Board, Cell};
 use pcef_session::Batch;

@@ -5,8 +5,8 @@ use Rattle.pcef_model.proofs.JournalExtends.{flushed_not, flushed_once, tables_a
 use Rattle.pcef_session.specs.declared.batch.Item.{Item}
 use Rattle.pcef_session.specs.Following.{HasSmallRows, row_of}
 use Rattle.pcef_model.specs.Slots.{AreSlotsBelow}
-use Rattle.pcef_lock.specs.Counting.{with_items}
-use Rattle.pcef_lock.specs.Lanes.{continues_lane}
+use Rattle.pcef_handover.specs.Counting.{with_items}
+use Rattle.pcef_handover.specs.Lanes.{continues_lane}
 use Rattle.pcef_lock.proofs.Handing.{all_low, handed_well, octets_fit, sound_taken}
 use Rattle.pcef_lock.proofs.Keeps.{sound_same}
 use Rattle.pcef_lock.proofs.FlushAnswers.{flush_answered}

@@ -8,7 +8,7 @@ use Rattle.pcef_model.specs.Setting.{Setting}
 use Rattle.pcef_journaled.specs.Archiving.{Archives}
 use Rattle.pcef_share.specs.Amounts.{sums, zeros}
 use Rattle.pcef_pool.specs.Pools.{rates_due}
-use Rattle.pcef_lock.specs.Counting.{slot_total}
+use Rattle.pcef_handover.specs.Counting.{slot_total}
 use Rattle.pcef_lock.specs.Gathering.{AgreeWith, AreGathered, CanGather, gathered, key_totals, total_of}
 use Rattle.pcef_lock.specs.declared.key_totals.KeyTotal.{KeyTotal}
 use Rattle.pcef_lock.proofs.Gathered.{gathered_all, share_of, shares_there}

@@ -1,7 +1,7 @@
 use Rattle.std.proofs.Common.{◌≡◌, ◌∙◌, ap, arith, length}
 use Rattle.pcef_model.specs.Entries.{commands}
 use Rattle.pcef_share.specs.Amounts.{Account, command_ledger, plus, zeros}
-use Rattle.pcef_lock.proofs.Loops.{account_is}
+use Rattle.pcef_handover.proofs.Loops.{account_is}
 use Rattle.pcef_lock.proofs.FirstState.{sound_new}
 use Rattle.pcef_lock.proofs.state.State.new.Goals as goal
 

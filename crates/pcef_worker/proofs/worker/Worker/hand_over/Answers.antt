@@ -2,7 +2,7 @@ use Rattle.std.proofs.Common.{rules, ◌≡◌, ◌∙◌, ◌++◌, List, [], A
 use Rattle.std.proofs.lemmas.List.Elements.{All-nil}
 use Rattle.pcef_session.specs.declared.batch.Item.{Item}
 use Rattle.pcef_share.specs.Amounts.{zeros}
-use Rattle.pcef_lock.specs.Counting.{with_items}
+use Rattle.pcef_handover.specs.Counting.{with_items}
 use Rattle.pcef_lock.specs.Judging.{IsJudged}
 use Rattle.pcef_worker.proofs.Appending.{with_items_append}
 use Rattle.pcef_worker.proofs.worker.Worker.hand_over.Goals as goal

@@ -1,0 +1,4 @@
+pub mod Compared
+pub mod Ledgers
+pub mod Loops
+pub mod Slots
