@@ -235,6 +235,8 @@ static void answers(void) {
     check(accepts(g->session, "{\"do\":\"notice\",\"event\":\"RAT_CHANGE\",\"value\":\"eutran\"}") == 1 &&
               pcef_commands_left(g->session) == 0 && renews(g->session) && pcef_commands_left(g->session) == 1,
           "a session without a command left is renewed");
+    check(!accepts(g->session, "{\"do\":\"renew\"}") && is_text("{\"fault\":5,\"name\":\"UnknownDo\"}"),
+          "no line of a script renews it");
     check(accepts(g->session, "{\"do\":\"terminate\"}") && !renews(g->session) &&
               is_text("{\"name\":\"Terminated\",\"refused\":1}"), "a session that was terminated isn't renewed");
     pcef_close(g->session);
