@@ -7,10 +7,10 @@
 //!
 //! A word that ends in `.steps`, `.lines` or `.profiles` names a file. Any other names a script: `NAME.jsonl` has its
 //! lines, and `NAME.answers.jsonl` their answers, which were worked out by hand. The session's profile is `NAME.toml`
-//! where there is such a file, else `profile.toml`. A desk and workers make its steps behind a lock too, whose answers
-//! must be the same, and what they hand in is gathered. For each script a line is written: how many answers it has, how
-//! many of its lines are at fault, how many steps were made behind the lock and how many rows were gathered; or the
-//! first answer that isn't as worked out.
+//! where there is such a file, else `profile.toml`. A desk and workers make its steps behind a lock, whose answers must
+//! be those, and what they hand in is gathered. For each script a line is written: how many steps were made behind the
+//! lock and how many rows were gathered; or the first answer that isn't as worked out. `tests/test_worked.py` has the
+//! program `pcef` answer all lines of the same scripts in one thread.
 //!
 //! A file of steps has the lines of a script, without faults and without `show`. They are answered through the calls of
 //! `pcef_core`, on the profile `profile.toml`: one by one on a world, and all at once. The answers are written, and below
@@ -32,7 +32,6 @@
 mod addresses;
 mod behind_a_lock;
 mod calls;
-mod comparing;
 mod crew;
 mod line_texts;
 mod lines;
