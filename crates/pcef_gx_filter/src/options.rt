@@ -46,70 +46,86 @@ fn valued<'a>(alloc: Global, id: &'a str, value: &'a str, help: &'a str) -> Arg<
         .help(help)
 }
 
-/// Adds the options that say who speaks.
-fn with_identity<'a>(alloc: Global, command: Command<'a>) -> Result<Command<'a>, AllocError> {
-    let session_id = valued(alloc, "session-id", "TEXT", "The Session-Id").required_unless_present(
-        "sessions",
-    )?;
-    let sessions = valued(
-        alloc,
-        "sessions",
-        "FILE",
-        "Many sessions, in the place of --session-id and PROFILE: lines SESSION-ID PROFILE",
-    )
-    .conflicts_with("session-id")?
-    .conflicts_with("profile")?;
+/// The option of one session.
+fn session_id<'a>(alloc: Global) -> Result<Arg<'a>, AllocError> {
+    valued(alloc, "session-id", "TEXT", "The Session-Id").required_unless_present("sessions")
+}
+
+/// The option of many sessions.
+fn sessions<'a>(alloc: Global) -> Result<Arg<'a>, AllocError> {
+    let help = "Many sessions, in the place of --session-id and PROFILE: lines SESSION-ID PROFILE";
+    let sessions = valued(alloc, "sessions", "FILE", help).conflicts_with("session-id")?;
+    sessions.conflicts_with("profile")
+}
+
+/// Adds the options that say which sessions there are.
+fn with_sessions<'a>(alloc: Global, command: Command<'a>) -> Result<Command<'a>, AllocError> {
+    let command = command.arg(session_id(alloc)?)?;
+    command.arg(sessions(alloc)?)
+}
+
+/// Adds the options that say who speaks, and with whom.
+fn with_names<'a>(alloc: Global, command: Command<'a>) -> Result<Command<'a>, AllocError> {
     let host = valued(
         alloc,
         "origin-host",
         "HOST",
         "The Diameter host of this node",
-    )
-    .required(true);
-    let realm = valued(alloc, "origin-realm", "REALM", "The realm of this node").required(true);
-    let theirs = valued(alloc, "destination-realm", "REALM", "The realm of the PCRF").required(
-        true,
     );
+    let command = command.arg(host.required(true))?;
+    let realm = valued(alloc, "origin-realm", "REALM", "The realm of this node");
+    let command = command.arg(realm.required(true))?;
+    let theirs = valued(alloc, "destination-realm", "REALM", "The realm of the PCRF");
+    command.arg(theirs.required(true))
+}
+
+/// Adds the option of the PCRF's host, and that of an address.
+fn with_places<'a>(alloc: Global, command: Command<'a>) -> Result<Command<'a>, AllocError> {
+    let host = valued(alloc, "destination-host", "HOST", "The host of the PCRF");
+    let command = command.arg(host)?;
     let address = valued(
         alloc,
         "address",
         "ADDRESS",
         "The Host-IP-Address of this node",
     );
-    command
-        .arg(session_id)?
-        .arg(sessions)?
-        .arg(host)?
-        .arg(realm)?
-        .arg(theirs)?
-        .arg(valued(alloc, "destination-host", "HOST", "The host of the PCRF"))?
-        .arg(address.default_value("127.0.0.1"))
+    command.arg(address.default_value("127.0.0.1"))
 }
 
-/// Adds the options that say what is told.
+/// Adds the options that say what the first request tells, and where lines come from.
 fn with_access<'a>(alloc: Global, command: Command<'a>) -> Result<Command<'a>, AllocError> {
+    let apn = valued(alloc, "apn", "NAME", "The APN of the session");
+    let command = command.arg(apn)?;
+    let subscriber = valued(alloc, "subscriber", "IMSI", "The IMSI of the subscriber");
+    let command = command.arg(subscriber)?;
+    let packets = valued(
+        alloc,
+        "packets",
+        "FIFO",
+        "Lines of a script: take, flush, notice .., and {\"do\":\"end\"}; of many sessions, each behind NUMBER and a space",
+    );
+    command.arg(packets)
+}
+
+/// The profile of one session.
+fn profile<'a>(alloc: Global) -> Result<Arg<'a>, AllocError> {
+    let profile = Arg::new(alloc, "profile").value_name("PROFILE");
+    let profile = profile
+        .action(ArgAction::Set)
+        .help("The profile of the session, as of pcef script");
+    profile.required_unless_present("sessions")
+}
+
+/// Adds the option of the first number, and the profile.
+fn with_profile<'a>(alloc: Global, command: Command<'a>) -> Result<Command<'a>, AllocError> {
     let first = valued(
         alloc,
         "first-number",
         "N",
         "The number of the first request, 0 to 4294967295; without it the clock's",
     );
-    let profile = Arg::new(alloc, "profile")
-        .value_name("PROFILE")
-        .required_unless_present("sessions")?
-        .action(ArgAction::Set)
-        .help("The profile of the session, as of pcef script");
-    command
-        .arg(valued(alloc, "apn", "NAME", "The APN of the session"))?
-        .arg(valued(alloc, "subscriber", "IMSI", "The IMSI of the subscriber"))?
-        .arg(valued(
-            alloc,
-            "packets",
-            "FIFO",
-            "Lines of a script: take, flush, notice .., and {\"do\":\"end\"}; of many sessions, each behind NUMBER and a space",
-        ))?
-        .arg(first.value_parser(value_parser!(u32)))?
-        .arg(profile)
+    let command = command.arg(first.value_parser(value_parser!(u32)))?;
+    command.arg(profile(alloc)?)
 }
 
 /// The command line.
@@ -117,8 +133,11 @@ fn command<'a>(alloc: Global) -> Result<Command<'a>, AllocError> {
     let command = Command::new(alloc, "pcef_gx_filter").version("0.1").about(
         "Speaks of a session with its PCRF: reads Diameter on standard input, and writes it on standard output",
     );
-    let command = with_identity(alloc, command)?;
-    with_access(alloc, command)
+    let command = with_sessions(alloc, command)?;
+    let command = with_names(alloc, command)?;
+    let command = with_places(alloc, command)?;
+    let command = with_access(alloc, command)?;
+    with_profile(alloc, command)
 }
 
 /// Which sessions there are, or none where an option has no value.
