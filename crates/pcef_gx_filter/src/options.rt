@@ -47,12 +47,12 @@ fn valued<'a>(alloc: Global, id: &'a str, value: &'a str, help: &'a str) -> Arg<
 }
 
 /// The option of one session.
-fn session_id<'a>(alloc: Global) -> Result<Arg<'a>, AllocError> {
+fn single_option<'a>(alloc: Global) -> Result<Arg<'a>, AllocError> {
     valued(alloc, "session-id", "TEXT", "The Session-Id").required_unless_present("sessions")
 }
 
 /// The option of many sessions.
-fn sessions<'a>(alloc: Global) -> Result<Arg<'a>, AllocError> {
+fn listed_option<'a>(alloc: Global) -> Result<Arg<'a>, AllocError> {
     let help = "Many sessions, in the place of --session-id and PROFILE: lines SESSION-ID PROFILE";
     let sessions = valued(alloc, "sessions", "FILE", help).conflicts_with("session-id")?;
     sessions.conflicts_with("profile")
@@ -60,8 +60,8 @@ fn sessions<'a>(alloc: Global) -> Result<Arg<'a>, AllocError> {
 
 /// Adds the options that say which sessions there are.
 fn with_sessions<'a>(alloc: Global, command: Command<'a>) -> Result<Command<'a>, AllocError> {
-    let command = command.arg(session_id(alloc)?)?;
-    command.arg(sessions(alloc)?)
+    let command = command.arg(single_option(alloc)?)?;
+    command.arg(listed_option(alloc)?)
 }
 
 /// Adds the options that say who speaks, and with whom.
@@ -108,7 +108,7 @@ fn with_access<'a>(alloc: Global, command: Command<'a>) -> Result<Command<'a>, A
 }
 
 /// The profile of one session.
-fn profile<'a>(alloc: Global) -> Result<Arg<'a>, AllocError> {
+fn profile_option<'a>(alloc: Global) -> Result<Arg<'a>, AllocError> {
     let profile = Arg::new(alloc, "profile").value_name("PROFILE");
     let profile = profile
         .action(ArgAction::Set)
@@ -125,7 +125,7 @@ fn with_profile<'a>(alloc: Global, command: Command<'a>) -> Result<Command<'a>, 
         "The number of the first request, 0 to 4294967295; without it the clock's",
     );
     let command = command.arg(first.value_parser(value_parser!(u32)))?;
-    command.arg(profile(alloc)?)
+    command.arg(profile_option(alloc)?)
 }
 
 /// The command line.
