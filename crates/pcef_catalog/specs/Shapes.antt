@@ -1,6 +1,6 @@
 -- When a shape holds (own choice: TS 23.203, clause 6.2.2.2, lets a predefined rule detect its packets
 -- by more than addresses, ports and protocol).
-use Rattle.std.specs.Prelude.{ℕ, ◌==◌, nat_le, Bool, false, ◌&&◌, List, Option, Some, None, slice_get}
+use Rattle.std.specs.Prelude.{ℕ, ◌==◌, nat_le, Bool, true, false, ◌&&◌, List, Option, Some, None, slice_get}
 use Rattle.std.specs.List.{list_any, list_all}
 use Rattle.std.specs.Option.{option_map_or}
 use Rattle.pcef_packet.specs.declared.header.Dir.{Dir}
@@ -42,3 +42,12 @@ shape_holds shape header = list_any (λ tests. list_all (test_holds header) test
 -- whether the rule at this place of a catalog detects a packet
 abbrev pub detected : List Offer → ℕ → Header → Bool
 detected offers index header = option_map_or (λ o. shape_holds o.shape header) (slice_get offers index) false
+
+-- a test looks at nothing that differs among the packets of a flow with one code point
+abbrev pub test_ignores_volume : Test → Bool
+test_ignores_volume (OctetsAtMost most) = false
+test_ignores_volume test = true
+
+-- no test of a shape looks at the volume
+abbrev pub shape_ignores_volume : List (List Test) → Bool
+shape_ignores_volume shape = list_all (λ tests. list_all test_ignores_volume tests) shape

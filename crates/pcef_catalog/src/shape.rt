@@ -3,7 +3,7 @@
 ghost use Rattle.std.specs.Prelude.{◌≡◌, ◌≤◌, length, map};
 ghost use Rattle.std.specs.List.{list_all, list_any};
 ghost use Rattle.pcef_packet.specs.Addresses.{remote_side};
-ghost use Rattle.pcef_catalog.specs.Shapes.{local_port, port_between, remote_port, shape_holds, test_holds};
+ghost use Rattle.pcef_catalog.specs.Shapes.{local_port, port_between, remote_port, shape_holds, shape_ignores_volume, test_holds, test_ignores_volume};
 
 use arrayvec::ArrayVec;
 use pcef_filter::Net;
@@ -102,6 +102,14 @@ impl Shape {
     {
         any_holds(self.alternatives.as_slice(), header)
     }
+
+    /// Whether no test looks at the volume of a packet. Such a shape holds for all packets of a flow that have one code
+    /// point, or for none of them.
+    pub fn ignores_volume(&self) -> bool
+        ensures { result ≡ shape_ignores_volume self.now }
+    {
+        all_ignore_volume(self.alternatives.as_slice())
+    }
 }
 
 fn copy_tests(tests: &[Test]) -> ArrayVec<Test, 8>
@@ -137,6 +145,19 @@ fn all_hold(tests: &[Test], header: &Header) -> bool
     ensures { result ≡ list_all (test_holds header.now) tests.now }
 {
     tests.iter().all(|test| test.holds(header))
+}
+
+fn all_ignore_volume(alternatives: &[Alternative]) -> bool
+    ensures { result
+        ≡ list_all (λ a. list_all test_ignores_volume a.tests.items) alternatives.now }
+{
+    alternatives.iter().all(|a| ignore_volume(&a.tests))
+}
+
+fn ignore_volume(tests: &[Test]) -> bool
+    ensures { result ≡ list_all test_ignores_volume tests.now }
+{
+    tests.iter().all(|test| test.ignores_volume())
 }
 
 fn remote_addr(header: &Header) -> Addr
@@ -186,5 +207,12 @@ impl Test {
             Test::OctetsAtMost(most) => header.octets <= u32::from(*most),
             Test::Going(dir) => header.dir == *dir,
         }
+    }
+
+    /// Whether the test doesn't look at the volume of a packet, which differs among the packets of a flow.
+    pub fn ignores_volume(&self) -> bool
+        ensures { result ≡ test_ignores_volume self.now }
+    {
+        !matches!(self, Test::OctetsAtMost(_))
     }
 }

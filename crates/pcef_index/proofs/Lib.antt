@@ -3,6 +3,7 @@ pub mod Growing
 pub mod MarkLaws
 pub mod Marked
 pub mod Passing
+pub mod Places
 pub mod Placing
 pub mod Searching
 pub mod Sieving
