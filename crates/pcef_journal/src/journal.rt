@@ -5,7 +5,7 @@ ghost use Rattle.pcef_model.specs.Entries.{commands, reports, rows};
 
 use crate::walk::Reports;
 use pcef_history::History;
-use pcef_model::{Entry, Report};
+use pcef_model::{Entry, Report, Row};
 use std::alloc::{AllocError, Global};
 use std::marker::Model;
 
@@ -104,6 +104,19 @@ impl Journal {
                 self.reports.push_reserved(report);
             }
         }
+    }
+
+    /// Adds a packet row, of which nothing is stored: it is counted. Takes no memory.
+    pub fn append_row(&mut self, row: &Row)
+        requires { 0 < self.old.room }
+        ensures entries { self.new.entries ≡ Entry.Row row.now ∷ self.old.entries }
+        ensures forgotten { self.new.forgotten ≡ self.old.forgotten }
+        ensures room { self.old.room ≤ self.new.room + 1 }
+    {
+        // The copy is for the proof: nothing reads it, and no code is made for it.
+        self.history = self.history.then(&Entry::Row(row.copy()));
+        let rows = &mut self.rows;
+        *rows += 1;
     }
 
     /// How many packet rows there are.

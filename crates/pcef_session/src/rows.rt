@@ -39,7 +39,7 @@ pub(crate) fn take_rows(counted: &mut CountedJournal, items: &[Item])
     ensures room { counted.old.room ≤ counted.new.room + length items.now }
 {
     for item in items {
-        counted.take_row(item.row.copy(), item.slots.as_slice());
+        counted.take_row(&item.row, item.slots.as_slice());
     }
 }
 

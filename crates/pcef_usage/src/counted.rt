@@ -80,17 +80,17 @@ impl CountedJournal {
     }
 
     /// Appends a packet row and counts its octets once for the key of each of these slots. Takes no memory.
-    pub fn take_row(&mut self, row: Row, slots: &[Slot])
-        requires fits { CanCount slots.now row.header.octets self.old.states }
+    pub fn take_row(&mut self, row: &Row, slots: &[Slot])
+        requires fits { CanCount slots.now row.now.header.octets self.old.states }
         requires room { 0 < self.old.room }
-        ensures journal { self.new.journal ≡ Entry.Row row ∷ self.old.journal }
+        ensures journal { self.new.journal ≡ Entry.Row row.now ∷ self.old.journal }
         ensures forgotten { self.new.forgotten ≡ self.old.forgotten }
         ensures states { self.new.states
-            ≡ with_octets slots.now row.header.octets self.old.states }
+            ≡ with_octets slots.now row.now.header.octets self.old.states }
         ensures room { self.old.room ≤ self.new.room + 1 }
     {
         count_for(&mut self.usage, slots, row.header.octets);
-        self.journal.append(Entry::Row(row));
+        self.journal.append_row(row);
     }
 
     /// Gives a key a slot at this level, unless it has one. Takes no memory but these places.
