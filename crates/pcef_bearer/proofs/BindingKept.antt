@@ -13,7 +13,8 @@ use Rattle.pcef_rule.specs.declared.quantity.Sums.{Sums}
 use Rattle.pcef_rule.specs.QciKinds.{kind_of}
 use Rattle.pcef_bearer.specs.declared.bearers.Bound.{Bound}
 use Rattle.pcef_model.specs.declared.answer.Refusal.TheVariants.{UnknownQci, RatesMissing, RatesNotWanted, TooManyBearers, OverCapacityUp, OverCapacityDown}
-use Rattle.pcef_bearer.specs.Bindings.{Agree, Binding, DifferInName, HasItsId, HasRoom, IsBinding, bearer_of, bound_at, finds_no_bearer, id_excluding, is_named, put, refusals, total_down, total_up, with_rules, without}
+use Rattle.pcef_bearer.specs.Bindings.{Agree, Binding, DifferInName, bearer_of, bound_at, is_named, total_down, total_up}
+use Rattle.pcef_bearer.specs.BindingSteps.{HasItsId, HasRoom, IsBinding, finds_no_bearer, id_excluding, put, refusals, with_rules, without}
 use Rattle.pcef_model.specs.Refusals.{first_of}
 use Rattle.pcef_model.specs.Bearers.{is_gbr, is_non_gbr, rate_down, rate_up, sum_up, sum_down}
 use Rattle.pcef_bearer.proofs.GivenIds.{IsIdOf, agree_all, agree_self, agree_sym, given_id}

@@ -14,8 +14,9 @@ use Rattle.pcef_model.specs.ActiveRules.{Active, is_named, put, without}
 use Rattle.pcef_model.specs.Generations.{Generation, free_id, has_bearer, id_after, kept, next, rules_after, stays}
 use Rattle.pcef_model.proofs.Sameness.{same_qos_is, same_qos_self}
 use Rattle.pcef_bearer.specs.declared.bearers.Bound.{Bound}
-use Rattle.pcef_bearer.specs.Bindings.{IsBinding, bound_at, id_excluding, id_or_new, with_rules, finds_no_bearer as bound_finds_none, has_bearer as bound_has, is_named as bound_named, least_free as bound_free, put as bound_put, refusals as bound_refusals, total_down as bound_down, total_up as bound_up, without as bound_without}
-use Rattle.pcef_model.specs.Bearers.{other_ids, sum_up, sum_down, default_id, least_free as free}
+use Rattle.pcef_bearer.specs.Bindings.{bound_at, is_named as bound_named, total_down as bound_down, total_up as bound_up}
+use Rattle.pcef_bearer.specs.BindingSteps.{IsBinding, id_excluding, id_or_new, with_rules, finds_no_bearer as bound_finds_none, put as bound_put, refusals as bound_refusals, without as bound_without}
+use Rattle.pcef_model.specs.Bearers.{other_ids, sum_up, sum_down, default_id, has_pair, least_free as free}
 use Rattle.pcef_model.specs.Refusals.{bindings, finds_no_bearer, first_of, total_down, total_up}
 use Rattle.pcef_bearer.specs.Standing.{binding_of, bound_of}
 use Rattle.pcef_model.specs.Changes.{MakesActive}
@@ -112,7 +113,7 @@ used_bound g rules id = list_any_map (λ (b : Bound). id == b.bearer.0) (bound_b
 
 -- the least free id beside rules that were active
 free_bound : (p : Setting) (g : Generation) (others : List Active) → ((r : Active) → Contains others r → Contains g.rules r) →
-    bound_free (bound_of g others) ≡ free_id p g others
+    free (λ (b : Bound). b.bearer.0) (bound_of g others) ≡ free_id p g others
 free_bound p g others among =
     rw (kept_all p g others among)
     (find_agree (λ (id : ℕ). not (list_any (λ (b : Bound). id == b.bearer.0) (bound_of g others)))
@@ -120,7 +121,7 @@ free_bound p g others among =
     (λ id. ap not (used_bound g others id)) other_ids)
 
 -- a pair has a bearer where a rule of it is bound
-has_bound : (p : Setting) (g : Generation) (rules : List Active) (q : Qos) → bound_has p.default_qos (bound_of g rules) q ≡ has_bearer p rules q
+has_bound : (p : Setting) (g : Generation) (rules : List Active) (q : Qos) → has_pair (λ (b : Bound). b.qos) p.default_qos (bound_of g rules) q ≡ has_bearer p rules q
 has_bound p g rules q = ap (λ b. same_qos q p.default_qos || b) (list_any_map (λ (b : Bound). same_qos q b.qos) (bound_by g) rules)
 
 -- a pair finds no bearer beside what is bound where it finds none beside the rules
@@ -128,8 +129,8 @@ finds_bound : (p : Setting) (g : Generation) (rule : Properties) (others : List 
     ((r : Active) → Contains others r → Contains g.rules r) →
     bound_finds_none p.default_qos (bound_of g others) rule.qos ≡ finds_no_bearer p g rule others
 finds_bound p g rule others among =
-    both (bound_has p.default_qos (bound_of g others) rule.qos) (has_bearer p others rule.qos)
-    (is_none (bound_free (bound_of g others))) (is_none (free_id p g others))
+    both (has_pair (λ (b : Bound). b.qos) p.default_qos (bound_of g others) rule.qos) (has_bearer p others rule.qos)
+    (is_none (free (λ (b : Bound). b.bearer.0) (bound_of g others))) (is_none (free_id p g others))
     (has_bound p g others rule.qos) (ap (λ (o : Option ℕ). is_none o) (free_bound p g others among))
   where
     both : (a a2 b b2 : Bool) → a ≡ a2 → b ≡ b2 → (not a && b) ≡ (not a2 && b2)
@@ -209,7 +210,7 @@ module _ (p : Setting) (g : Generation) (bound : IsBound p g) (new : Active) (id
   -- the pair is new
   gets_new : same_qos new.properties.qos p.default_qos ≡ false →
       find (λ (b : Bound). same_qos new.properties.qos b.qos) (bound_of g g.rules) ≡ None →
-      bound_free (bound_of g (without new.properties.name g.rules)) ≡ Some id →
+      free (λ (b : Bound). b.bearer.0) (bound_of g (without new.properties.name g.rules)) ≡ Some id →
       id_after p g (put new g.rules) new.properties.qos ≡ id
   gets_new isnt none found =
       let unheld : list_any (λ (r : Active). same_qos new.properties.qos r.properties.qos) g.rules ≡ false =

@@ -12,8 +12,9 @@ use Rattle.pcef_model.specs.Setting.{same_qos}
 use Rattle.pcef_lists.proofs.Tests.{contrary}
 use Rattle.pcef_model.proofs.Sameness.{same_qos_is, same_qos_of, same_qos_self, same_qos_sym}
 use Rattle.pcef_bearer.specs.declared.bearers.Bound.{Bound}
-use Rattle.pcef_bearer.specs.Bindings.{Agree, HasItsId, finds_no_bearer, has_bearer, id_excluding, id_or_new, is_named, least_free, without}
-use Rattle.pcef_model.specs.Bearers.{default_id, other_ids}
+use Rattle.pcef_bearer.specs.Bindings.{Agree, is_named}
+use Rattle.pcef_bearer.specs.BindingSteps.{HasItsId, finds_no_bearer, id_excluding, id_or_new, without}
+use Rattle.pcef_model.specs.Bearers.{default_id, has_pair, least_free, other_ids}
 use Rattle.pcef_model.proofs.Names.{any_at}
 use Rattle.pcef_lists.proofs.Found.{found_is, found_passes}
 
@@ -102,7 +103,7 @@ module _ (default : Qos) (name : List ℕ) (bound : List Bound) (q : Qos) (id : 
       }
 
   -- of a new pair
-  by_new : same_qos q default ≡ false → find (λ (b : Bound). same_qos q b.qos) bound ≡ None → least_free (without name bound) ≡ Some id →
+  by_new : same_qos q default ≡ false → find (λ (b : Bound). same_qos q b.qos) bound ≡ None → least_free (λ (b : Bound). b.bearer.0) (without name bound) ≡ Some id →
       IsIdOf default (without name bound) q id
   by_new isnt none found =
       let others : All (λ (b : Bound). same_qos q b.qos ≡ false) (without name bound) =
@@ -157,7 +158,7 @@ gets_id default name bound q accepted none =
         let others : All (λ (b : Bound). same_qos q b.qos ≡ false) (without name bound) =
         All-filter (λ (b : Bound). not (is_named name b)) (λ (b : Bound). same_qos q b.qos ≡ false) bound
         (none_passes (λ (b : Bound). same_qos q b.qos) bound there) in
-        let unheld : has_bearer default (without name bound) q ≡ false =
+        let unheld : has_pair (λ (b : Bound). b.qos) default (without name bound) q ≡ false =
         or_from (same_qos q default) (list_any (λ (b : Bound). same_qos q b.qos) (without name bound)) isnt
         (list_any_none (λ (b : Bound). same_qos q b.qos) (without name bound) others) in
         let bad : true ≡ false = rw (unheld, none) at accepted in

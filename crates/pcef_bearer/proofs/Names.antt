@@ -2,7 +2,8 @@
 use Rattle.std.proofs.Common.{◌≡◌, ◌+◌, List, [], ◌∷◌, arith, inl, inr}
 use Rattle.std.proofs.lemmas.Bool.{cases_Bool}
 use Rattle.pcef_bearer.specs.declared.bearers.Bound.{Bound}
-use Rattle.pcef_bearer.specs.Bindings.{is_named, put, total_down, total_up, without}
+use Rattle.pcef_bearer.specs.Bindings.{is_named, total_down, total_up}
+use Rattle.pcef_bearer.specs.BindingSteps.{put, without}
 use Rattle.pcef_model.specs.Bearers.{rate_down, rate_up, sum_up, sum_down}
 use Rattle.pcef_model.proofs.Names.{Once, behind_stay, tail_once}
 

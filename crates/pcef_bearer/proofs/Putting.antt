@@ -7,7 +7,8 @@ use Rattle.std.proofs.lemmas.List.Quantifiers.{position-Some}
 use Rattle.std.proofs.lemmas.List.Folds.{list_any_none}
 use Rattle.std.proofs.lemmas.List.Sums.{fails_before_first}
 use Rattle.pcef_bearer.specs.declared.bearers.Bound.{Bound}
-use Rattle.pcef_bearer.specs.Bindings.{is_named, put}
+use Rattle.pcef_bearer.specs.Bindings.{is_named}
+use Rattle.pcef_bearer.specs.BindingSteps.{put}
 
 -- behind all rules, where none has the name
 pub put_behind : (new : Bound) (bound : List Bound) → list_any (is_named new.name) bound ≡ false → put new bound ≡ bound ++ new ∷ []

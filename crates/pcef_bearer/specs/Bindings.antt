@@ -1,23 +1,17 @@
--- Which bearers rules are bound to, and what may be bound (TS 23.203, clauses 6.1.1.4 and 6.2.2.2).
-use Rattle.std.specs.Prelude.{ℕ, ◌≡◌, ◌≤◌, ◌<◌, ◌+◌, ◌==◌, Bool, true, false, ◌&&◌, ◌||◌, not, List, [], Option, Some, None, Result, Ok, Err, All, AllPairs, filter, find, is_none, length, if◌then◌else◌}
+-- Which rules are bound to which bearers, and what a bearer guarantees (TS 23.203, clauses 6.1.1.4 and 6.2.2.2). How
+-- rules are bound and released, and why one isn't, `BindingSteps` says.
+use Rattle.std.specs.Prelude.{ℕ, ◌≡◌, ◌==◌, Bool, false, ◌||◌, List, Option, Some, None, filter, find, if◌then◌else◌}
 use Rattle.std.specs.List.{list_any}
+use Rattle.std.specs.Option.{option_map}
 use Rattle.pcef_rule.specs.declared.qci.Kind.{Kind}
-use Rattle.pcef_rule.specs.declared.qci.Kind.TheVariants.{NonGbr}
+use Rattle.pcef_rule.specs.declared.quantity.BearerId.{BearerId}
 use Rattle.pcef_rule.specs.declared.quantity.Qos.{Qos}
 use Rattle.pcef_rule.specs.declared.quantity.Rates.{Rates}
 use Rattle.pcef_rule.specs.declared.quantity.Sums.{Sums}
-use Rattle.pcef_rule.specs.QciKinds.{kind_of}
 use Rattle.pcef_model.specs.Setting.{same_name, same_qos}
-use Rattle.pcef_model.specs.Bearers.{default_id, has_pair, least_free as free, rate_down, rate_up, sum_down, sum_up}
-use Rattle.pcef_model.specs.Refusals.{Conditions, bind_refusals, first_of}
-use Rattle.pcef_model.specs.declared.answer.Refusal.{Refusal}
-use Rattle.pcef_model.specs.declared.answer.Refusal.TheVariants.{NoMemory}
-use Rattle.pcef_model.specs.declared.command.Command.{Command}
-use Rattle.pcef_model.specs.Commands.{takes_away}
-use Rattle.pcef_rule.specs.declared.quantity.BearerId.{BearerId}
+use Rattle.pcef_model.specs.Bearers.{default_id, sum_down, sum_up}
+use Rattle.pcef_model.specs.Named.{has_name}
 use Rattle.pcef_bearer.specs.declared.bearers.Bound.{Bound}
-use Rattle.pcef_bearer.specs.declared.bearers.Released.{Released}
-use Rattle.pcef_model.specs.Named.{has_name, put_by, without_name}
 
 -- what is fixed: the pair of the default bearer, what the guaranteed rates may sum up to, and the kind
 -- that is declared for each QCI; and the rules that are bound, in the order in which they were bound
@@ -27,158 +21,17 @@ pub record Binding : Type 0 where
   pub qcis : List (Option Kind)
   pub bound : List Bound
 
--- ---- rules by name
-abbrev pub is_named : List ℕ → Bound → Bool
-is_named name b = has_name (λ c. c.name) name b
-
-abbrev pub without : List ℕ → List Bound → List Bound
-without name bound = without_name (λ b. b.name) name bound
-
--- the rules with this one: a rule that is bound anew keeps its place
-abbrev pub put : Bound → List Bound → List Bound
-put new bound = put_by (λ b. b.name) new bound
-
--- ---- bearers
--- the default pair has a bearer, and each pair of a rule that is bound
-abbrev pub has_bearer : Qos → List Bound → Qos → Bool
-has_bearer default bound q = has_pair (λ b. b.qos) default bound q
-
--- the least id that no rule is on
-abbrev pub least_free : List Bound → Option ℕ
-least_free bound = free (λ b. b.bearer.0) bound
-
--- the id of a bearer that is there, or a free one
-abbrev pub id_or_new : Option Bound → List Bound → Option ℕ
-id_or_new (Some b) others = Some b.bearer.0
-id_or_new None others = least_free others
-
--- the id of a pair's bearer, or of the one that is established for it: the old bearer where the pair had
--- one before, else the least id that is free beside the rules that stay
-abbrev pub id_excluding : Qos → List Bound → List Bound → Qos → Option ℕ
-id_excluding default before others q =
-    if same_qos q default then Some default_id
-    else id_or_new (find (λ b. same_qos q b.qos) before) others
-
--- ---- rates
-abbrev pub total_up : List Bound → ℕ
-total_up bound = sum_up (λ b. b.rates) bound
-
-abbrev pub total_down : List Bound → ℕ
-total_down bound = sum_down (λ b. b.rates) bound
-
--- both directions
-abbrev pub total : List Bound → Sums
-total bound = record { up = total_up bound; down = total_down bound }
-
--- what the rates would sum up to with a rule of this name and these rates
-abbrev pub total_with : Binding → List ℕ → Option Rates → Sums
-total_with v name rates = record {
-  up = total_up (without name v.bound) + rate_up rates;
-  down = total_down (without name v.bound) + rate_down rates;
-}
-
--- the bearer of a rule
-abbrev pub bearer_in : Option Bound → Option BearerId
-bearer_in None = None
-bearer_in (Some b) = Some b.bearer
-
-abbrev pub bearer_of : List ℕ → List Bound → Option BearerId
-bearer_of name bound = bearer_in (find (is_named name) bound)
-
--- the rules on the bearer with this id
-abbrev pub rules_on : ℕ → List Bound → List Bound
-rules_on id bound = filter (λ b. b.bearer.0 == id) bound
-
-abbrev pub is_present : ℕ → List Bound → Bool
-is_present id bound = (id == default_id) || list_any (λ b. b.bearer.0 == id) bound
-
-abbrev pub guaranteed : ℕ → List Bound → Option Sums
-guaranteed id bound =
-    if is_present id bound then Some (record { up = total_up (rules_on id bound); down = total_down (rules_on id bound) }) else None
-
--- the QCI and ARP of a bearer: those of the rules on it, which all have the same; the default bearer's without one, too
-abbrev pub qos_in : Option Bound → Option Qos
-qos_in None = None
-qos_in (Some b) = Some b.qos
-
-abbrev pub qos_on : ℕ → Binding → Option Qos
-qos_on id v = if id == default_id then Some v.default_qos else qos_in (find (λ b. b.bearer.0 == id) v.bound)
-
--- what is left of a rule that is no longer bound: its bearer ends where the rules that stay aren't on it
-abbrev pub released : Option Bound → List Bound → Option Released
-released None others = None
-released (Some b) others = Some (record { bearer = b.bearer; ended = not (is_present b.bearer.0 others) })
-
--- a new pair needs a free id beside the rules that stay
-abbrev pub finds_no_bearer : Qos → List Bound → Qos → Bool
-finds_no_bearer default others q = not (has_bearer default others q) && is_none (least_free others)
-
--- the refusals of a binding with this pair and these rates, beside the rules that stay
-abbrev pub refusals : Binding → List Bound → Qos → Option Rates → Conditions Refusal
-refusals v others q rates =
-    bind_refusals v.qcis v.capacity q rates (finds_no_bearer v.default_qos others q) (total_up others) (total_down others)
-
--- ---- what a binding gives
+-- a rule that is bound to the bearer with this id
 abbrev pub bound_at : List ℕ → Qos → Option Rates → ℕ → Bound
 bound_at name q rates id = record { name = name; qos = q; rates = rates; bearer = record { 0 = id } }
 
--- the same with other rules
-abbrev pub with_rules : Binding → List Bound → Binding
-with_rules v bound = record { default_qos = v.default_qos; capacity = v.capacity; qcis = v.qcis; bound = bound }
+-- ---- the bearer of a rule
+abbrev pub is_named : List ℕ → Bound → Bool
+is_named name b = has_name (λ c. c.name) name b
 
--- the number of an id, where there is one
-abbrev pub number_of : Option BearerId → Option ℕ
-number_of None = None
-number_of (Some id) = Some id.0
+abbrev pub bearer_of : List ℕ → List Bound → Option BearerId
+bearer_of name bound = option_map (λ b. b.bearer) (find (is_named name) bound)
 
--- the binding with a rule of this name bound to this id, in its old place or behind all others
-abbrev pub bound_with : Binding → List ℕ → Qos → Option Rates → ℕ → Binding
-bound_with v name q rates id = with_rules v (put (bound_at name q rates id) v.bound)
-
--- nothing refuses to bind a rule of this name with this pair and these rates
-abbrev pub IsAccepted : Binding → List ℕ → Qos → Option Rates → Type 0
-IsAccepted v name q rates = first_of (refusals v (without name v.bound) q rates) ≡ None
-
--- this is the id that a rule of this name gets by this pair
-abbrev pub GetsId : Binding → List ℕ → Qos → ℕ → Type 0
-GetsId v name q id = id_excluding v.default_qos v.bound (without name v.bound) q ≡ Some id
-
--- the id that a rule of this name gets by this pair
-abbrev pub id_for : Binding → List ℕ → Qos → Option ℕ
-id_for v name q = id_excluding v.default_qos v.bound (without name v.bound) q
-
--- the first refusal of a rule of this name with this pair and these rates
-abbrev pub first_refusal : Binding → List ℕ → Qos → Option Rates → Option Refusal
-first_refusal v name q rates = first_of (refusals v (without name v.bound) q rates)
-
--- a binding without bound rules
-abbrev pub empty_binding : Qos → Sums → List (Option Kind) → Binding
-empty_binding default_qos capacity qcis =
-    record { default_qos = default_qos; capacity = capacity; qcis = qcis; bound = [] }
-
--- what is left of the rule of a name, where one is bound
-abbrev pub left_by : List ℕ → List Bound → Option Released
-left_by name bound = released (find (is_named name) bound) (without name bound)
-
--- the rules that a command keeps
-abbrev pub kept_by : Command → List Bound → List Bound
-kept_by command bound = filter (λ b. not (takes_away command b.name b.bearer.0)) bound
-
--- why a binding was refused, where it was
-abbrev pub refusal_in : Result BearerId Refusal → Option Refusal
-refusal_in (Ok _) = None
-refusal_in (Err refusal) = Some refusal
-
--- a binding is refused by the first refusal that is due, and where none is, only when out of memory
-abbrev pub IsRefusalBy : Option Refusal → Refusal → Type 0
-IsRefusalBy (Some first) refusal = refusal ≡ first
-IsRefusalBy None refusal = refusal ≡ NoMemory
-
--- a rule of this name is bound, or there is room for one more
-abbrev pub HasRoom : List ℕ → ℕ → List Bound → Type 0
-HasRoom name room bound = list_any (is_named name) bound ≡ false → length bound < room
-
--- ---- what always holds
 -- two rules are on one bearer exactly where they have the same pair
 abbrev pub Agree : Bound → Bound → Type 0
 Agree a b = same_qos a.qos b.qos ≡ (a.bearer.0 == b.bearer.0)
@@ -186,22 +39,22 @@ Agree a b = same_qos a.qos b.qos ≡ (a.bearer.0 == b.bearer.0)
 abbrev pub DifferInName : Bound → Bound → Type 0
 DifferInName a b = same_name a.name b.name ≡ false
 
--- the default pair is on the default bearer, and any other pair on another bearer
-abbrev pub HasItsId : Qos → Bound → Type 0
-HasItsId default b =
-    (same_qos b.qos default ≡ true → b.bearer.0 ≡ default_id)
-    × (same_qos b.qos default ≡ false → (6 ≤ b.bearer.0) × (b.bearer.0 ≤ 15))
+-- ---- what a bearer guarantees
+abbrev pub total_up : List Bound → ℕ
+total_up bound = sum_up (λ b. b.rates) bound
 
-pub record IsBinding (v : Binding) : Type 0 where
-  pub default_is_non_gbr : kind_of v.qcis v.default_qos.qci.0 ≡ Some NonGbr
-  pub few : length v.bound ≤ 64
-  pub names : AllPairs DifferInName v.bound
-  pub ids : All (HasItsId v.default_qos) v.bound
-  pub pairs : AllPairs Agree v.bound
-  pub within_up : total_up v.bound ≤ v.capacity.up
-  pub within_down : total_down v.bound ≤ v.capacity.down
+abbrev pub total_down : List Bound → ℕ
+total_down bound = sum_down (λ b. b.rates) bound
 
--- ---- for private clauses
--- the first of these ids that none of these rules is on
-abbrev pub first_unused : List ℕ → List Bound → Option ℕ
-first_unused ids others = find (λ id. not (list_any (λ b. id == b.bearer.0) others)) ids
+-- the rules on the bearer with this id
+abbrev pub rules_on : ℕ → List Bound → List Bound
+rules_on id bound = filter (λ b. b.bearer.0 == id) bound
+
+-- the default bearer is always there, and any other where a rule is on it
+abbrev pub is_present : ℕ → List Bound → Bool
+is_present id bound = (id == default_id) || list_any (λ b. b.bearer.0 == id) bound
+
+-- the sums over the rules on the bearer with this id, if there is one
+abbrev pub guaranteed : ℕ → List Bound → Option Sums
+guaranteed id bound =
+    if is_present id bound then Some (record { up = total_up (rules_on id bound); down = total_down (rules_on id bound) }) else None

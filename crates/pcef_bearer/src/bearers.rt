@@ -5,7 +5,8 @@ ghost use Rattle.std.specs.List.{list_any};
 ghost use Rattle.pcef_rule.specs.declared.qci.Kind.TheVariants as kind;
 ghost use Rattle.pcef_rule.specs.QciKinds.{kind_of};
 ghost use Rattle.pcef_model.specs.declared.answer.OpenFault.TheVariants as fault;
-ghost use Rattle.pcef_bearer.specs.Bindings.{bearer_of, bound_with, empty_binding, first_refusal, guaranteed, id_for, is_named, kept_by, left_by, number_of, qos_on, refusal_in, rules_on, total, total_with, with_rules, without, GetsId, HasRoom, IsAccepted, IsBinding, IsRefusalBy};
+ghost use Rattle.pcef_bearer.specs.Bindings.{bearer_of, guaranteed, is_named, rules_on};
+ghost use Rattle.pcef_bearer.specs.BindingSteps.{bound_with, empty_binding, first_refusal, id_for, kept_by, left_by, number_of, qos_on, refusal_in, total, total_with, with_rules, without, GetsId, HasRoom, IsAccepted, IsBinding, IsRefusalBy};
 ghost use Rattle.pcef_model.specs.Bearers.{is_gbr, is_non_gbr};
 ghost use Rattle.pcef_model.specs.Refusals.{first_of, over_room};
 
@@ -71,7 +72,7 @@ impl Drop for Bearers {
 impl Model for Bearers {
     ghost use Rattle.std.specs.Prelude.{◌<◌, ◌^◌};
     ghost use Rattle.pcef_bearer.specs.Bindings.{Binding};
-    ghost use Rattle.pcef_bearer.specs.Bindings.{IsBinding};
+    ghost use Rattle.pcef_bearer.specs.BindingSteps.{IsBinding};
 
     ghost Value = { Binding };
 

@@ -3,7 +3,9 @@
 ghost use Rattle.std.specs.Prelude.{◌≡◌, ◌==◌, ◌≤◌, find, length};
 ghost use Rattle.std.specs.List.{list_any};
 ghost use Rattle.std.specs.Option.{option_copied};
-ghost use Rattle.pcef_bearer.specs.Bindings.{finds_no_bearer, first_unused, id_excluding, is_present, least_free, number_of, rules_on, without};
+ghost use Rattle.pcef_model.specs.Bearers.{least_free};
+ghost use Rattle.pcef_bearer.specs.Bindings.{is_present, rules_on};
+ghost use Rattle.pcef_bearer.specs.BindingSteps.{finds_no_bearer, first_unused, id_excluding, number_of, without};
 
 use crate::bearers::Bound;
 use crate::lookup::{has_pair_excluding, is_named, of_pair, same_qos};
@@ -38,7 +40,7 @@ fn first_free(ids: &[u8], name: &RuleName, bound: &[Bound]) -> Option<BearerId>
 
 /// The least id whose bearer carries no rule other than the one of this name.
 pub(crate) fn least_free(name: &RuleName, bound: &[Bound]) -> Option<BearerId>
-    ensures { number_of result ≡ least_free (without name.now bound.now) }
+    ensures { number_of result ≡ least_free (λ b. b.bearer.0) (without name.now bound.now) }
 {
     first_free(&[6, 7, 8, 9, 10, 11, 12, 13, 14, 15], name, bound)
 }

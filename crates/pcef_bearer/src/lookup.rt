@@ -5,7 +5,8 @@ ghost use Rattle.std.specs.List.{list_any};
 ghost use Rattle.std.specs.Option.{option_copied};
 ghost use Rattle.pcef_model.specs.Commands.{takes_away};
 ghost use Rattle.pcef_model.specs.Setting.{same_flag, same_qos};
-ghost use Rattle.pcef_bearer.specs.Bindings.{is_named, kept_by, put, without, HasRoom};
+ghost use Rattle.pcef_bearer.specs.Bindings.{is_named};
+ghost use Rattle.pcef_bearer.specs.BindingSteps.{kept_by, put, without, HasRoom};
 
 use crate::bearers::{Bound, Places};
 use pcef_model::Command;

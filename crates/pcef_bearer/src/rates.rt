@@ -2,7 +2,8 @@
 
 ghost use Rattle.std.specs.Prelude.{◌≡◌, ◌<◌, ◌≤◌, ◌+◌, ◌^◌, nat_lt, if◌then◌else◌};
 ghost use Rattle.pcef_model.specs.Bearers.{rate_down, rate_up};
-ghost use Rattle.pcef_bearer.specs.Bindings.{rules_on, total_down, total_up, without};
+ghost use Rattle.pcef_bearer.specs.Bindings.{rules_on, total_down, total_up};
+ghost use Rattle.pcef_bearer.specs.BindingSteps.{without};
 
 use crate::bearers::Bound;
 use crate::lookup::is_named;

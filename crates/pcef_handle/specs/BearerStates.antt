@@ -2,7 +2,8 @@
 use Rattle.std.specs.Prelude.{ℕ, Option, Some, None, Result, Ok, Err, length}
 use Rattle.pcef_rule.specs.declared.quantity.Qos.{Qos}
 use Rattle.pcef_rule.specs.declared.quantity.Sums.{Sums}
-use Rattle.pcef_bearer.specs.Bindings.{Binding, guaranteed, qos_on, rules_on}
+use Rattle.pcef_bearer.specs.Bindings.{Binding, guaranteed, rules_on}
+use Rattle.pcef_bearer.specs.BindingSteps.{qos_on}
 use Rattle.pcef_session.specs.Answers.{binding_now}
 use Rattle.pcef_handle.specs.declared.bearers.BearerRefusal.{BearerRefusal}
 use Rattle.pcef_handle.specs.declared.bearers.BearerRefusal.TheVariants.{NoBearer, NoSession}

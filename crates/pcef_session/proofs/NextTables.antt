@@ -45,7 +45,8 @@ use Rattle.pcef_usage.proofs.Slots.{slot_of_on}
 use Rattle.pcef_usage.proofs.Tells.{all_same, has_slot_is}
 use Rattle.pcef_session.specs.private.Parts.{Held}
 use Rattle.pcef_session.specs.Agreement.{KeyAgrees}
-use Rattle.pcef_bearer.specs.Bindings.{Binding, id_excluding, without as bound_without}
+use Rattle.pcef_bearer.specs.Bindings.{Binding}
+use Rattle.pcef_bearer.specs.BindingSteps.{id_excluding, without as bound_without}
 use Rattle.pcef_session.specs.declared.prepared.Activation.{Activation}
 use Rattle.pcef_bearer.specs.Standing.{binding_of}
 use Rattle.pcef_rule.specs.declared.quantity.BearerId.{BearerId}

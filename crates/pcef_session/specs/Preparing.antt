@@ -2,7 +2,8 @@
 use Rattle.std.specs.Prelude.{ℕ, ◌≡◌, ◌≤◌, ◌<◌, ◌+◌, true, List, Option, Some, None, IfSome, is_some, length}
 use Rattle.std.specs.Arc.{arc_value}
 use Rattle.std.specs.Option.{option_map}
-use Rattle.pcef_bearer.specs.Bindings.{Binding, GetsId, HasRoom}
+use Rattle.pcef_bearer.specs.Bindings.{Binding}
+use Rattle.pcef_bearer.specs.BindingSteps.{GetsId, HasRoom}
 use Rattle.pcef_bearer.specs.Standing.{binding_of}
 use Rattle.pcef_rule.specs.declared.quantity.BearerId.{BearerId}
 use Rattle.pcef_model.specs.declared.command.Command.{Command}

@@ -6,7 +6,7 @@ ghost use Rattle.std.specs.Option.{option_copied, option_map};
 ghost use Rattle.pcef_active.specs.ByName.{put_kept};
 ghost use Rattle.pcef_model.specs.Refusals.{is_close, is_terminate};
 ghost use Rattle.pcef_session.specs.Preparing.{HasPlacesFor, IsBearerFor, IsBearerOf};
-ghost use Rattle.pcef_bearer.specs.Bindings as binding;
+ghost use Rattle.pcef_bearer.specs.BindingSteps as binding;
 ghost use Rattle.pcef_usage.specs.Commands.{subscribed_by};
 ghost use Rattle.pcef_usage.specs.Keys.{HasPlaceFor, finds_no_slot, keys_of};
 ghost use Rattle.pcef_usage.specs.PendingReports.{KnowsAll};

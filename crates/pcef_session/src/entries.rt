@@ -1,7 +1,7 @@
 //! Entries of tables for rules that become active.
 
 ghost use Rattle.std.specs.Prelude.{IfOk, None, Some};
-ghost use Rattle.pcef_bearer.specs.Bindings as binding;
+ghost use Rattle.pcef_bearer.specs.BindingSteps as binding;
 ghost use Rattle.pcef_session.specs.private.Entries.{IsEntryOn};
 
 use crate::keys::{is_on, slot_of};

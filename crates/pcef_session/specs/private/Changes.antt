@@ -9,7 +9,8 @@ use Rattle.pcef_model.specs.Reports.{in_order}
 use Rattle.std.specs.Prelude.{ℕ, ◌≡◌, List, Option, Some, None, Bool, filter, not}
 use Rattle.pcef_rule.specs.declared.quantity.BearerId.{BearerId}
 use Rattle.pcef_rule.specs.declared.rule.Properties.{Properties}
-use Rattle.pcef_bearer.specs.Bindings.{Binding, HasRoom, bound_at, id_excluding, put, refusals, with_rules, without}
+use Rattle.pcef_bearer.specs.Bindings.{Binding, bound_at}
+use Rattle.pcef_bearer.specs.BindingSteps.{HasRoom, id_excluding, put, refusals, with_rules, without}
 use Rattle.pcef_model.specs.Refusals.{first_of}
 use Rattle.pcef_model.specs.declared.command.Command.{Command}
 use Rattle.pcef_model.specs.declared.command.Command.TheVariants.{Monitor}

@@ -7,7 +7,8 @@ use Rattle.pcef_model.specs.Entries.{Journal}
 use Rattle.pcef_model.specs.Journals.{gen}
 use Rattle.pcef_model.specs.Setting.{Setting}
 use Rattle.pcef_rule.specs.declared.quantity.BearerId.{BearerId}
-use Rattle.pcef_bearer.specs.Bindings.{Binding, id_excluding, without}
+use Rattle.pcef_bearer.specs.Bindings.{Binding}
+use Rattle.pcef_bearer.specs.BindingSteps.{id_excluding, without}
 use Rattle.pcef_table.specs.declared.entry.TableEntry.{TableEntry}
 use Rattle.pcef_table.specs.Tables.{TableValue}
 use Rattle.pcef_usage.specs.declared.usage.KeyState.{KeyState}

@@ -1,6 +1,6 @@
 use Rattle.std.proofs.Common.{◌≡◌, ◌==◌, ℕ, drop, find, not}
 use Rattle.std.specs.List.{list_any}
-use Rattle.pcef_bearer.specs.Bindings.{without}
+use Rattle.pcef_bearer.specs.BindingSteps.{without}
 use Rattle.pcef_bearer.specs.declared.bearers.Bound.{Bound}
 use Rattle.pcef_bearer.proofs.ids.first_free.Given as goal
 

@@ -1,6 +1,6 @@
 use Rattle.std.proofs.Common.{◌≡◌, ◌==◌, drop}
 use Rattle.std.specs.List.{list_any}
-use Rattle.pcef_bearer.specs.Bindings.{without}
+use Rattle.pcef_bearer.specs.BindingSteps.{without}
 use Rattle.pcef_bearer.specs.declared.bearers.Bound.{Bound}
 use Rattle.pcef_bearer.proofs.ids.is_used_excluding.Given as goal
 

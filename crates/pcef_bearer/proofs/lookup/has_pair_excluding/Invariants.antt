@@ -1,7 +1,7 @@
 use Rattle.std.proofs.Common.{◌≡◌, drop}
 use Rattle.std.specs.List.{list_any}
 use Rattle.pcef_model.specs.Setting.{same_qos}
-use Rattle.pcef_bearer.specs.Bindings.{without}
+use Rattle.pcef_bearer.specs.BindingSteps.{without}
 use Rattle.pcef_bearer.specs.declared.bearers.Bound.{Bound}
 use Rattle.pcef_bearer.proofs.lookup.has_pair_excluding.Given as goal
 

@@ -1,5 +1,6 @@
 use Rattle.std.proofs.Common.{◌≡◌, ◌+◌, drop}
-use Rattle.pcef_bearer.specs.Bindings.{total_down, total_up, without}
+use Rattle.pcef_bearer.specs.Bindings.{total_down, total_up}
+use Rattle.pcef_bearer.specs.BindingSteps.{without}
 use Rattle.pcef_bearer.proofs.rates.sums_excluding.Given as goal
 
 abbrev pub invariant-loop-b : goal.invariant-loop-b

@@ -1,5 +1,5 @@
 use Rattle.std.proofs.Common.{◌∙◌, ap, sym}
-use Rattle.pcef_bearer.specs.Bindings.{number_of, without}
+use Rattle.pcef_bearer.specs.BindingSteps.{number_of, without}
 use Rattle.pcef_bearer.proofs.GivenIds.{gets_id}
 use Rattle.pcef_bearer.proofs.BindingKept.{accepted}
 use Rattle.pcef_session.proofs.entries.bearer_for.Goals as goal

@@ -1,5 +1,5 @@
 use Rattle.std.proofs.Common.{◌≡◌, ◌∙◌, None, sym}
-use Rattle.pcef_bearer.specs.Bindings.{id_excluding, without}
+use Rattle.pcef_bearer.specs.BindingSteps.{id_excluding, without}
 use Rattle.pcef_bearer.proofs.GivenIds.{gets_id}
 use Rattle.pcef_bearer.proofs.BindingKept.{accepted}
 use Rattle.pcef_bearer.proofs.bearers.Bearers.set.Goals as goal

@@ -1,5 +1,6 @@
 use Rattle.std.proofs.Common.{◌≡◌, Some, None, subst, sym, refl, true}
-use Rattle.pcef_bearer.specs.Bindings.{Binding, refusals as bound_refusals, without}
+use Rattle.pcef_bearer.specs.Bindings.{Binding}
+use Rattle.pcef_bearer.specs.BindingSteps.{refusals as bound_refusals, without}
 use Rattle.pcef_model.specs.Refusals.{first_of, refusals, becoming_active}
 use Rattle.pcef_model.specs.Outcomes.{changes}
 use Rattle.pcef_model.specs.Commands.{activated}

@@ -1,5 +1,6 @@
 use Rattle.std.proofs.Common.{◌≡◌, ◌∙◌, subst, ap}
-use Rattle.pcef_bearer.specs.Bindings.{Binding, total_with}
+use Rattle.pcef_bearer.specs.Bindings.{Binding}
+use Rattle.pcef_bearer.specs.BindingSteps.{total_with}
 use Rattle.pcef_model.specs.Journals.{now}
 use Rattle.pcef_model.specs.ProfileModel.{setting_of}
 use Rattle.pcef_model.specs.Refusals.{first_of, over_room}

@@ -1,5 +1,6 @@
 use Rattle.std.proofs.Common.{◌≡◌, ◌∙◌, subst, ap}
-use Rattle.pcef_bearer.specs.Bindings.{Binding, total}
+use Rattle.pcef_bearer.specs.Bindings.{Binding}
+use Rattle.pcef_bearer.specs.BindingSteps.{total}
 use Rattle.pcef_model.specs.Journals.{now}
 use Rattle.pcef_model.specs.ProfileModel.{setting_of}
 use Rattle.pcef_model.specs.Refusals.{total_now}
