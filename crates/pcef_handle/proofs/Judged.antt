@@ -11,7 +11,7 @@ use Rattle.pcef_model.specs.Journals.{gen, tables}
 use Rattle.pcef_model.proofs.Decisive.{made_once}
 use Rattle.pcef_session.specs.Answers.{ShowsNewest}
 use Rattle.pcef_session.specs.SessionModel.{SessionModel}
-use Rattle.pcef_session.proofs.ShownSlots.{shown_counts}
+use Rattle.pcef_session.proofs.ShownSlots.{shown_slots_of}
 use Rattle.pcef_session.proofs.ShownVerdicts.{shown_judges}
 use Rattle.pcef_handle.specs.Judging.{IsJudged}
 use Rattle.pcef_handle.specs.declared.judging.Judgement.{Judgement}
@@ -29,6 +29,6 @@ judged_newest s offers ue header newest d shows offered ue_is generation judged 
     record {
       generation_is = generation ∙ shows.number_is;
       verdict_is = is;
-      counts_is = λ key. rw slots_in (shown_counts s.setting s.journal g newest header d.verdict key shows once is);
+      counts_is = rw slots_in (shown_slots_of s.setting s.journal g newest header d.verdict shows once is);
       placed = (newest, shows, place_in);
     }

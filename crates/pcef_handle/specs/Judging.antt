@@ -9,7 +9,7 @@ use Rattle.pcef_front.specs.declared.fault.FrontFault.TheVariants as front
 use Rattle.pcef_table.specs.Tables.{TableValue}
 use Rattle.pcef_table.specs.Verdicts.{IsPlaced}
 use Rattle.pcef_model.specs.Journals.{at, counts_in, gen, slots, verdict_at}
-use Rattle.pcef_model.specs.Slots.{has_one_of}
+use Rattle.pcef_model.specs.Slots.{AreSlotsOf}
 use Rattle.pcef_session.specs.Answers.{ShowsNewest}
 use Rattle.pcef_session.specs.SessionModel.{SessionModel}
 use Rattle.pcef_handle.specs.declared.held.Handle.{Handle}
@@ -23,8 +23,8 @@ use Rattle.pcef_handle.specs.declared.judging.Judgement.{Judgement}
 pub record IsJudged (s : SessionModel) (header : Header) (d : Judgement) : Type 0 where
   pub generation_is : d.generation ≡ gen s.journal
   pub verdict_is : d.verdict ≡ verdict_at s.setting (at s.setting s.journal (gen s.journal)) header
-  pub counts_is : (key : List ℕ) →
-      counts_in s.setting (at s.setting s.journal (gen s.journal)) key header ≡ has_one_of (slots s.setting s.journal) d.slots.items key
+  pub counts_is : AreSlotsOf (slots s.setting s.journal)
+      (λ key. counts_in s.setting (at s.setting s.journal (gen s.journal)) key header) d.slots.items
   pub placed : (t : TableValue) × ShowsNewest s t × IsPlaced s.setting.catalog t.entries d.verdict d.place
 
 -- the header that is read is judged, or why there is none

@@ -1,10 +1,8 @@
 -- The books of a session stay right as its journal grows.
-use Rattle.std.proofs.Common.{◌≡◌, ◌≢◌, ◌∙◌, ◌≤◌, ◌<◌, ◌+◌, ◌*◌, ◌^◌, ◌==◌, ℕ, suc, Bool, true, false, List, [], ◌∷◌, ◌++◌, length, map, refl, sym, ap, subst, arith, inl, inr, Some, None, if◌then◌else◌, add-zero}
+use Rattle.std.proofs.Common.{◌≡◌, ◌≢◌, ◌∙◌, ◌≤◌, ◌<◌, ◌+◌, ◌*◌, ◌^◌, ℕ, suc, Bool, false, List, [], ◌∷◌, ◌++◌, length, map, refl, sym, ap, subst, arith, inl, inr, Some, None, if◌then◌else◌}
 use Rattle.std.specs.Prelude.{Option, slice_get, slice_index}
 use Rattle.std.specs.Option.{option_map_or}
-use Rattle.std.specs.List.{list_any}
 use Rattle.std.proofs.lemmas.Bool.{cases_lt}
-use Rattle.std.proofs.lemmas.Bool.Decides.{eqb_tells}
 use Rattle.std.proofs.lemmas.List.Elements.{All-head, All-tail}
 use Rattle.pcef_rule.specs.declared.quantity.Slot.{Slot}
 use Rattle.pcef_model.specs.declared.command.Command.{Command}
@@ -17,9 +15,10 @@ use Rattle.pcef_model.specs.Journals.{counted, counts, counts_in, octets_of, slo
 use Rattle.pcef_model.specs.Reports.{after_command, after_flush, thresholds, with_rows}
 use Rattle.pcef_model.proofs.Growth.{counted_after_command, counted_after_row}
 use Rattle.pcef_model.proofs.AfterEvents.{tables_after, tables_after_rows}
-use Rattle.pcef_usage.proofs.Slots.{distinct_slots, stranger_counted}
+use Rattle.pcef_usage.proofs.Slots.{stranger_counted}
 use Rattle.pcef_session.specs.declared.batch.Item.{Item}
-use Rattle.pcef_model.specs.Slots.{AreSlotsBelow, CountsFor, IsWithin, is_at, is_one_of, place_of}
+use Rattle.pcef_model.specs.Slots.{AreSlotsBelow, CountsFor, is_one_of}
+use Rattle.pcef_model.proofs.SlotsOf.{slot_is, slots_below, slots_once}
 use Rattle.pcef_session.specs.Following.{HasItsSlots, HasSmallRows, row_of}
 use Rattle.pcef_model.specs.Lawful.{Lawful}
 use Rattle.pcef_session.proofs.CommandAgrees.{commands_after, commands_told}
@@ -31,7 +30,7 @@ use Rattle.pcef_share.specs.Amounts.{plus}
 use Rattle.pcef_handover.specs.Counting.{AreCounted, slot_total, with_item, with_items, with_slots}
 use Rattle.pcef_handover.proofs.Ledgers.{length_plus, plus_other, plus_same}
 use Rattle.pcef_handover.proofs.Slots.{length_slots, past_slots, slots_keep, slots_raised, slots_within}
-use Rattle.pcef_lock.proofs.Places.{get_left, get_past, past_among, past_none, place_at}
+use Rattle.pcef_lock.proofs.Places.{get_left, get_past, past_among, past_none}
 
 -- ---- what the definitions look at
 pub counted_same : (p : Setting) (j k : Journal) (key : List ℕ) → tables k ≡ tables j → rows k ≡ rows j → counted p k key ≡ counted p j key
@@ -57,7 +56,7 @@ total_grown p j k n grows same =
 
     fresh : length (slots p j) ≤ n → (o : Option (List ℕ)) → slice_get (slots p k) n ≡ o → option_map_or (counted p k) o 0 ≡ 0
     fresh past None is = refl
-    fresh past (Some key) is = same key ∙ stranger_counted p j key (past_among (slots p j) (slots p k) n key grows (distinct_slots p (tables k)) past is)
+    fresh past (Some key) is = same key ∙ stranger_counted p j key (past_among (slots p j) (slots p k) n key grows (slots_once p (tables k)) past is)
 
 -- ---- events that count nothing
 pub counted_later : (p : Setting) (j k : Journal) (t : List ℕ) → Grows (slots p j) (slots p k) → ((key : List ℕ) → counted p k key ≡ counted p j key) → rows k ≡ rows j →
@@ -103,10 +102,16 @@ counted_command p j c t lawful grows is =
 
 -- ---- a row
 -- what a row adds to the key of a slot
-row_adds : (p : Setting) (j : Journal) (r : Row) (own : List Slot) (n : ℕ) → IsWithin (slots p j) own → CountsFor p j r own → (t : List ℕ) → n < length t → slice_index t n ≡ slot_total p j n →
+row_adds : (p : Setting) (j : Journal) (r : Row) (own : List Slot) (n : ℕ) → CountsFor p j r own → (t : List ℕ) → n < length t → slice_index t n ≡ slot_total p j n →
     slice_index (with_slots t own r.header.octets) n ≡ slot_total p (entry.Row r ∷ j) n
-row_adds p j r own n within counts_for t inside is = from (slice_get (slots p j) n) refl
+row_adds p j r own n counts_for t inside is = from (slice_get (slots p j) n) refl
   where
+    test : List ℕ → Bool
+    test = λ key. counts p j key r
+
+    within : AreSlotsBelow (length (slots p j)) own
+    within = slots_below (slots p j) test own counts_for
+
     raised : slice_index (with_slots t own r.header.octets) n ≡ slice_index t n + (if is_one_of n own then r.header.octets else 0)
     raised = slots_raised (length (slots p j)) t own r.header.octets n within inside
 
@@ -117,26 +122,25 @@ row_adds p j r own n within counts_for t inside is = from (slice_get (slots p j)
         let total : slot_total p j n ≡ 0 = ap (λ o. option_map_or (counted p j) o 0) at in
         omega (arith, raised, none, is, total)
     from (Some key) at =
-        let place : place_of key (slots p j) ≡ Some n = place_at (slots p j) n key (distinct_slots p (tables j)) at in
-        let counting : counts p j key r ≡ is_one_of n own = counts_for key ∙ ap (λ o. list_any (λ (s : Slot). is_at o s.0) own) place in
+        let counting : counts p j key r ≡ is_one_of n own = sym (slot_is (slots p j) test own n counts_for ∙ ap (λ o. option_map_or test o false) at) in
         let total : slot_total p j n ≡ counted p j key = ap (λ o. option_map_or (counted p j) o 0) at in
         let more : counted p (entry.Row r ∷ j) key ≡ (if is_one_of n own then r.header.octets else 0) + counted p j key =
         counted_after_row p j key r ∙ ap (λ (x : Bool). (if x then r.header.octets else 0) + counted p j key) counting in
         omega (arith, raised, is, total, more)
 
-pub counted_row : (p : Setting) (j : Journal) (i : Item) (t : List ℕ) → length (slots p j) ≤ 8 → IsWithin (slots p j) i.slots.items → CountsFor p j i.row i.slots.items → i.row.header.octets < 2 ^ 32 → AreCounted p j t →
+pub counted_row : (p : Setting) (j : Journal) (i : Item) (t : List ℕ) → length (slots p j) ≤ 8 → CountsFor p j i.row i.slots.items → i.row.header.octets < 2 ^ 32 → AreCounted p j t →
     AreCounted p (entry.Row i.row ∷ j) (with_item t i)
-counted_row p j i t few within counts_for small is =
+counted_row p j i t few counts_for small is =
     let own : List Slot = i.slots.items in
     let o : ℕ = i.row.header.octets in
     let u : List ℕ = with_slots t own o in
-    let low_slots : AreSlotsBelow 8 own = below_more (length (slots p j)) 8 own few within in
+    let low_slots : AreSlotsBelow 8 own = below_more (length (slots p j)) 8 own few (slots_below (slots p j) (λ key. counts p j key i.row) own counts_for) in
     let many : length u ≡ 10 = length_slots t own o ∙ is.ten in
     let at : (n : ℕ) → n ≢ 8 → slice_index (plus u 8 1) n ≡ slice_index u n = λ n differ. plus_other u 8 1 n differ in
     let eight : slice_index (plus u 8 1) 8 ≡ slice_index u 8 + 1 = plus_same u 8 1 (omega (arith, many)) in
     record {
       ten = length_plus u 8 1 ∙ many;
-      slots_are = λ n low. at n (λ (e : n ≡ 8). absurd (omega (arith, low, e))) ∙ row_adds p j i.row own n within counts_for t (omega (arith, low, is.ten)) (is.slots_are n low);
+      slots_are = λ n low. at n (λ (e : n ≡ 8). absurd (omega (arith, low, e))) ∙ row_adds p j i.row own n counts_for t (omega (arith, low, is.ten)) (is.slots_are n low);
       rows_are = omega (arith, eight, slots_keep t own o 8 low_slots (omega arith), is.rows_are);
       commands_are = at 9 (λ (e : 9 ≡ 8). absurd (omega (arith, e))) ∙ slots_keep t own o 9 low_slots (omega arith) ∙ is.commands_are;
       within = λ n low.
@@ -150,11 +154,11 @@ pub counted_rows : (p : Setting) (items : List Item) (j : Journal) (t : List ℕ
 unfolding with_rows with_items
 counted_rows p [] j t few has small is = is
 counted_rows p (i ∷ items) j t few has small is =
-    let P : Item → Type 0 = λ x. IsWithin (slots p j) x.slots.items × CountsFor p j x.row x.slots.items in
+    let P : Item → Type 0 = λ x. CountsFor p j x.row x.slots.items in
     let Q : Item → Type 0 = λ x. x.row.header.octets < 2 ^ 32 in
     let here : P i = All-head P i items has in
     counted_rows p items (entry.Row i.row ∷ j) (with_item t i) few (All-tail P i items has) (All-tail Q i items small)
-    (counted_row p j i t few here.0 here.1 (All-head Q i items small) is)
+    (counted_row p j i t few here (All-head Q i items small) is)
 
 commands_flushed : (p : Setting) (j : Journal) (rs : List Row) → commands (after_flush p j rs) ≡ commands (with_rows rs j)
 unfolding with_rows

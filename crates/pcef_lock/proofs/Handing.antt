@@ -8,12 +8,13 @@ use Rattle.pcef_table.specs.Tables.{TableValue}
 use Rattle.pcef_model.specs.declared.entry.Entry.TheVariants as entry
 use Rattle.pcef_model.specs.declared.row.Row.{Row}
 use Rattle.pcef_model.specs.Entries.{Journal, rows}
-use Rattle.pcef_model.specs.Journals.{attach_count, lane_len, slots}
+use Rattle.pcef_model.specs.Journals.{attach_count, counts, lane_len, slots}
 use Rattle.pcef_model.specs.Lawful.{BatchFollows}
 use Rattle.pcef_model.specs.Refusals.{first_of, flush_refusals}
 use Rattle.pcef_model.specs.Reports.{after_flush, after_leave, with_rows}
 use Rattle.pcef_model.specs.Setting.{Setting}
-use Rattle.pcef_model.specs.Slots.{AreSlotsBelow, CountsFor, IsWithin}
+use Rattle.pcef_model.specs.Slots.{AreSlotsBelow, CountsFor}
+use Rattle.pcef_model.proofs.SlotsOf.{slots_below}
 use Rattle.pcef_model.proofs.SlotsLater.{below_more}
 use Rattle.pcef_model.proofs.Lanes.{lane_few}
 use Rattle.pcef_model.proofs.JournalExtends.{attach_count_after_flush, flushed_fits, rows_after_flush, tables_after_flush}
@@ -53,7 +54,8 @@ handed_well p first s ts seen b places free worker items is goes_on begins all =
 
 pub all_low : (p : Setting) (j : Journal) (items : List Item) → length (slots p j) ≤ 8 → HasItsSlots p j items → All (λ (i : Item). AreSlotsBelow 8 i.slots.items) items
 all_low p j items few has =
-    All-weaker (λ (i : Item). IsWithin (slots p j) i.slots.items × CountsFor p j i.row i.slots.items) (λ (i : Item). AreSlotsBelow 8 i.slots.items) (λ i own. below_more (length (slots p j)) 8 i.slots.items few own.0) items has
+    All-weaker (λ (i : Item). CountsFor p j i.row i.slots.items) (λ (i : Item). AreSlotsBelow 8 i.slots.items)
+    (λ i own. below_more (length (slots p j)) 8 i.slots.items few (slots_below (slots p j) (λ key. counts p j key i.row) i.slots.items own)) items has
 
 -- what is added to the books fits them
 rows_fit : (p : Setting) (first : ℕ) (s : SessionModel) (ts : List TableValue) (b : Account) (places free worker : ℕ) (items : List Item) → IsSound p first (locked s ts b places) free →

@@ -1,5 +1,5 @@
 -- Items as the tables judge them that were seen.
-use Rattle.std.proofs.Common.{◌≡◌, ◌∙◌, ◌≤◌, ◌+◌, ◌-◌, ℕ, List, All, sym, ap, subst, arith}
+use Rattle.std.proofs.Common.{◌≡◌, ◌≤◌, ◌+◌, ◌-◌, ℕ, List, All, subst, arith}
 use Rattle.std.proofs.lemmas.List.Elements.{All-weaker}
 use mathlib.Core.List.{IsPrefix}
 use Rattle.pcef_packet.specs.declared.header.Addr.{Addr}
@@ -11,10 +11,10 @@ use Rattle.pcef_model.specs.Generations.{oldest}
 use Rattle.pcef_model.specs.Entries.{Journal}
 use Rattle.pcef_model.specs.Journals.{at, gen, verdict_at, slots, tables}
 use Rattle.pcef_session.specs.declared.batch.Item.{Item}
-use Rattle.pcef_model.specs.Slots.{CountsFor, IsWithin, has_one_of}
+use Rattle.pcef_model.specs.Slots.{CountsFor}
 use Rattle.pcef_session.specs.Following.{HasItsSlots}
 use Rattle.pcef_session.specs.Shown.{Shows}
-use Rattle.pcef_session.proofs.ShownSlots.{shown_counts, shown_within}
+use Rattle.pcef_session.proofs.ShownSlots.{shown_slots_of}
 use Rattle.pcef_model.proofs.Decisive.{made_once}
 use Rattle.pcef_session.proofs.ShownVerdicts.{shown_judges}
 use Rattle.pcef_lock.specs.Judging.{AllJudged, IsJudged}
@@ -38,7 +38,6 @@ all_judged_later p first seen more items begins all =
 pub record IsRight (p : Setting) (j : Journal) (i : Item) : Type 0 where
   pub known : i.row.generation ≤ gen j
   pub verdict : i.row.verdict ≡ verdict_at p (at p j i.row.generation) i.row.header
-  pub within : IsWithin (slots p j) i.slots.items
   pub counts_for : CountsFor p j i.row i.slots.items
 
 right_one : (p : Setting) (j : Journal) (first : ℕ) (ts : List TableValue) (i : Item) → ArePublished p j first ts → IsJudged p.catalog p.ue first ts i → IsRight p j i
@@ -53,8 +52,7 @@ right_one p j first ts i published made =
     record {
       known = omega (arith, inside, published.through, made.there.0);
       verdict = verdict;
-      within = rw made.slots_are (shown_within p j g t i.row.verdict shows);
-      counts_for = λ key. shown_counts p j g t i.row.header i.row.verdict key shows once verdict ∙ ap (λ own. has_one_of (slots p j) own key) (sym made.slots_are);
+      counts_for = rw made.slots_are (shown_slots_of p j g t i.row.header i.row.verdict shows once verdict);
     }
 
 pub all_right : (p : Setting) (j : Journal) (first : ℕ) (ts seen : List TableValue) (items : List Item) → ArePublished p j first ts → IsPrefix seen ts → AllJudged p first seen items → All (IsRight p j) items
@@ -63,4 +61,4 @@ all_right p j first ts seen items published begins all =
 
 pub right_slots : (p : Setting) (j : Journal) (items : List Item) → All (IsRight p j) items → HasItsSlots p j items
 right_slots p j items all =
-    All-weaker (IsRight p j) (λ (i : Item). IsWithin (slots p j) i.slots.items × CountsFor p j i.row i.slots.items) (λ i is. (is.within, is.counts_for)) items all
+    All-weaker (IsRight p j) (λ (i : Item). CountsFor p j i.row i.slots.items) (λ i is. is.counts_for) items all

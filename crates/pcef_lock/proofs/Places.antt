@@ -1,18 +1,12 @@
 -- What stands at a place of a list, and the slots of keys.
-use Rattle.std.proofs.Common.{◌≡◌, ◌≢◌, ◌∙◌, ◌≤◌, ◌<◌, ◌+◌, ◌==◌, ℕ, zero, suc, true, false, List, [], ◌∷◌, ◌++◌, length, refl, sym, ap, arith, inl, inr, Some, None, get_or, get_or-set_same, get_or-set_other, length-set, if◌then◌else◌, add-zero}
+use Rattle.std.proofs.Common.{◌≡◌, ◌∙◌, ◌≤◌, ◌<◌, ◌+◌, ℕ, zero, suc, false, List, [], ◌∷◌, ◌++◌, length, refl, sym, ap, arith, inl, inr, Some, None}
 use Rattle.std.specs.Prelude.{slice_get}
-use Rattle.std.specs.Option.{option_map}
-use Rattle.std.proofs.lemmas.List.{set-get_or}
-use Rattle.std.proofs.Math.ListN.{set}
 use Rattle.std.proofs.lemmas.Bool.{cases_Bool, cases_lt}
-use Rattle.std.proofs.lemmas.Bool.Decides.{eqb_tells}
-use Rattle.pcef_model.specs.Setting.{same_name}
 use Rattle.pcef_model.specs.Commands.{is_among}
-use Rattle.pcef_model.proofs.Sameness.{same_name_is, same_name_self}
-use Rattle.pcef_usage.specs.PendingReports.{Distinct}
 use Rattle.pcef_model.specs.Slots.{place_of}
 use Rattle.pcef_model.proofs.SlotPlaces.{Grows, place_grown}
 use Rattle.pcef_model.proofs.SlotsLater.{place_within}
+use Rattle.pcef_model.proofs.SlotsOf.{StandOnce}
 
 -- ---- what stands at a place
 pub get_left : {X : Type 0} (xs ys : List X) (n : ℕ) → n < length xs → slice_get (xs ++ ys) n ≡ slice_get xs n
@@ -40,39 +34,13 @@ get_there (x ∷ xs) zero inside = (x, refl)
 get_there (x ∷ xs) (suc n) inside = get_there xs n (omega (arith, inside))
 
 -- ---- keys and their places
-pub among_at : (keys : List (List ℕ)) (n : ℕ) (key : List ℕ) → slice_get keys n ≡ Some key → is_among key keys ≡ true
-among_at [] n key is = absurd cc
-among_at (k ∷ keys) zero key is =
-    let same : k ≡ key = cc in
-    rw same (rw (same_name_self key) refl)
-among_at (k ∷ keys) (suc n) key is =
-    elim (cases_Bool (same_name key k)) [
-      | inl here ↦ rw here refl
-      | inr later ↦ rw later (among_at keys n key is)
-    ]
-
-pub place_at : (keys : List (List ℕ)) (n : ℕ) (key : List ℕ) → Distinct keys → slice_get keys n ≡ Some key → place_of key keys ≡ Some n
-place_at [] n key distinct is = absurd cc
-place_at (k ∷ keys) zero key distinct is =
-    let same : k ≡ key = cc in
-    rw same (rw (same_name_self key) refl)
-place_at (k ∷ keys) (suc n) key distinct is =
-    elim (cases_Bool (same_name key k)) [
-      | inl here ↦
-          let same : key ≡ k = same_name_is key k here in
-          let twice : is_among k keys ≡ true = ap (λ x. is_among x keys) (sym same) ∙ among_at keys n key is in
-          let once : is_among k keys ≡ false = distinct.0 in
-          absurd cc
-      | inr later ↦ rw later (ap (option_map (λ m. suc m)) (place_at keys n key distinct.1 is))
-    ]
-
 -- a key past the first ones isn't among them
-pub past_among : (keys all : List (List ℕ)) (n : ℕ) (key : List ℕ) → Grows keys all → Distinct all → length keys ≤ n → slice_get all n ≡ Some key → is_among key keys ≡ false
-past_among keys all n key grows distinct past is =
+pub past_among : (keys all : List (List ℕ)) (n : ℕ) (key : List ℕ) → Grows keys all → StandOnce all → length keys ≤ n → slice_get all n ≡ Some key → is_among key keys ≡ false
+past_among keys all n key grows once past is =
     elim (cases_Bool (is_among key keys)) [
       | inr absent ↦ absent
       | inl there ↦
-          let at : place_of key all ≡ Some n = place_at all n key distinct is in
+          let at : place_of key all ≡ Some n = once n key is in
           let here : place_of key keys ≡ Some n = sym (place_grown key keys grows.0 there) ∙ ap (place_of key) (sym grows.1) ∙ at in
           absurd (omega (arith, past, place_within key keys n here))
     ]

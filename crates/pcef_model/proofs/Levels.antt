@@ -27,7 +27,7 @@ use Rattle.pcef_model.proofs.RulesNow.{now_after_other, rules_now}
 use Rattle.pcef_model.proofs.Sameness.{same_name_is}
 use Rattle.pcef_model.proofs.SlotsGrow.{HasSlot, rules_have_slots}
 
-no_or : (a b : Bool) → (a || b) ≡ false → (a ≡ false) × (b ≡ false)
+pub no_or : (a b : Bool) → (a || b) ≡ false → (a ≡ false) × (b ≡ false)
 no_or true b none = absurd cc
 no_or false b none = (refl, none)
 
@@ -55,7 +55,7 @@ pub among_add : (k l : List ℕ) (keys : List (List ℕ)) → is_among k (add_ke
 among_add k l keys =
     elim (cases_Bool (is_among l keys)) [ inl known ↦ rw known (among_known k l keys known) | inr unknown ↦ rw unknown (among_last k l keys) ]
 
-absent_before : (k : List ℕ) (named : Option (List ℕ)) (keys : List (List ℕ)) → is_among k (add_if_some named keys) ≡ false → is_among k keys ≡ false
+pub absent_before : (k : List ℕ) (named : Option (List ℕ)) (keys : List (List ℕ)) → is_among k (add_if_some named keys) ≡ false → is_among k keys ≡ false
 absent_before k None keys absent = absent
 absent_before k (Some l) keys absent = (no_or (is_among k keys) (same_name k l) (sym (among_add k l keys) ∙ absent)).0
 

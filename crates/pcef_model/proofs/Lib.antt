@@ -30,3 +30,6 @@ pub mod Sameness
 pub mod SlotPlaces
 pub mod SlotsGrow
 pub mod SlotsLater
+pub mod SlotsOf
+pub mod SlotWords
+pub mod Strangers

@@ -28,7 +28,7 @@ place_grown key (k ∷ keys) more there =
       | inr differs ↦ let later : is_among key keys ≡ true = rw differs at there in rw differs (ap (option_map (λ n. suc n)) (place_grown key keys more later))
     ]
 
-suc_of : (o : Option ℕ) (n : ℕ) → option_map (λ m. suc m) o ≡ Some n → (m : ℕ) × (o ≡ Some m) × (n ≡ suc m)
+pub suc_of : (o : Option ℕ) (n : ℕ) → option_map (λ m. suc m) o ≡ Some n → (m : ℕ) × (o ≡ Some m) × (n ≡ suc m)
 suc_of None n is = absurd cc
 suc_of (Some m) n is = (m, refl, cc)
 

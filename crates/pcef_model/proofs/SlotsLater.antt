@@ -1,16 +1,20 @@
 -- A row goes on counting for the keys of its slots as the journal grows.
 use Rattle.std.proofs.Common.{◌≡◌, ◌∙◌, ◌≤◌, ◌<◌, ℕ, suc, true, false, List, [], ◌∷◌, ◌++◌, length, refl, sym, ap, ap₂, arith, inl, inr, Some, None, ◌==◌, length-append}
-use Rattle.std.specs.Prelude.{Option, ◌||◌}
-use Rattle.std.specs.Option.{option_map}
-use Rattle.std.proofs.lemmas.Bool.{cases_Bool, eqb-true, false_from_ne_true}
+use Rattle.std.specs.Prelude.{Bool, Option, ◌||◌, if◌then◌else◌, slice_get, zero}
+use Rattle.std.specs.Option.{option_map, option_map_or}
+use Rattle.std.proofs.lemmas.Bool.{cases_Bool, cases_lt, eqb-true, false_from_ne_true}
+use Rattle.std.proofs.lemmas.Option.{slice_get_past}
 use Rattle.pcef_rule.specs.declared.quantity.Slot.{Slot}
 use Rattle.pcef_model.specs.declared.row.Row.{Row}
 use Rattle.pcef_model.specs.Setting.{Setting, same_name}
 use Rattle.pcef_model.specs.Commands.{is_among}
 use Rattle.pcef_model.specs.Entries.{Journal}
-use Rattle.pcef_model.specs.Journals.{at, counts_in, slots}
-use Rattle.pcef_model.specs.Slots.{AreSlotsBelow, CountsFor, IsWithin, has_one_of, is_at, place_of}
-use Rattle.pcef_model.proofs.SlotPlaces.{Grows, place_grown}
+use Rattle.pcef_model.specs.Journals.{at, counts, counts_in, slots, tables}
+use Rattle.pcef_model.specs.Slots.{AreSlotsBelow, CountsFor, place_of}
+use Rattle.pcef_model.proofs.SlotPlaces.{Grows, place_grown, place_there}
+use Rattle.pcef_model.proofs.SlotWords.{IsWithin, has_one_of, is_at}
+use Rattle.pcef_model.proofs.SlotsOf.{slots_once}
+use Rattle.pcef_model.proofs.Strangers.{stranger_counts}
 
 -- a key that isn't there has no place
 place_none : (key : List ℕ) (keys : List (List ℕ)) → is_among key keys ≡ false → place_of key keys ≡ None
@@ -81,7 +85,42 @@ slots_grown keys all [] key grows within = refl
 slots_grown keys all (slot ∷ own) key grows within =
     ap₂ (λ a b. a || b) (ap (λ ks. is_at (place_of key ks) slot.0) grows.1 ∙ slot_grown keys grows.0 slot.0 key within.0) (slots_grown keys all own key grows within.2)
 
-pub counts_later : (p : Setting) (j k : Journal) (r : Row) (own : List Slot) → at p k r.generation ≡ at p j r.generation → Grows (slots p j) (slots p k) → IsWithin (slots p j) own →
-    CountsFor p j r own → CountsFor p k r own
-counts_later p j k r own same grows within counts key =
-    ap (λ g. counts_in p g key r.header) same ∙ counts key ∙ sym (slots_grown (slots p j) (slots p k) own key grows within)
+get_left : {X : Type 0} (xs ys : List X) (n : ℕ) → n < length xs → slice_get (xs ++ ys) n ≡ slice_get xs n
+get_left [] ys n inside = absurd (omega (arith, inside))
+get_left (x ∷ xs) ys zero inside = refl
+get_left (x ∷ xs) ys (suc n) inside = get_left xs ys n (omega (arith, inside))
+
+-- a row that counts for the keys of its slots goes on doing so
+pub counts_later : (p : Setting) (j k : Journal) (r : Row) (own : List Slot) → at p k r.generation ≡ at p j r.generation → Grows (slots p j) (slots p k) → CountsFor p j r own → CountsFor p k r own
+counts_later p j k r own same grows are n = are n ∙ ap (λ (b : Bool). if b then 1 else 0) (sym (from (slice_get (slots p k) n) refl))
+  where
+    counting : (key : List ℕ) → counts p k key r ≡ counts p j key r
+    counting key = ap (λ g. counts_in p g key r.header) same
+
+    -- a key that came later counts for nothing
+    late : (key : List ℕ) → slice_get (slots p k) n ≡ Some key → length (slots p j) ≤ n → counts p j key r ≡ false
+    late key some past =
+        stranger_counts p j key r (false_from_ne_true (is_among key (slots p j)) (λ there.
+        let first = place_there key (slots p j) there in
+        let now_at : place_of key (slots p k) ≡ Some first.0 = ap (place_of key) grows.1 ∙ place_grown key (slots p j) grows.0 there ∙ first.1 in
+        let one : Some first.0 ≡ Some n = sym now_at ∙ slots_once p (tables k) n key some in
+        let e : first.0 ≡ n = cc in
+        let inside = place_within key (slots p j) first.0 first.1 in absurd (omega (arith, e, inside, past))))
+
+    early : n < length (slots p j) → slice_get (slots p k) n ≡ slice_get (slots p j) n
+    early inside = ap (λ ks. slice_get ks n) grows.1 ∙ get_left (slots p j) grows.0 n inside
+
+    from : (o : Option (List ℕ)) → slice_get (slots p k) n ≡ o → option_map_or (λ key. counts p k key r) (slice_get (slots p k) n) false ≡ option_map_or (λ key. counts p j key r) (slice_get (slots p j) n) false
+    from o is =
+        elim (cases_lt n (length (slots p j))) [
+          | inl inside ↦ ap (λ x. option_map_or (λ key. counts p k key r) x false) (early inside) ∙ each (slice_get (slots p j) n)
+          | inr past ↦ beyond o is past ∙ sym (ap (λ x. option_map_or (λ key. counts p j key r) x false) (slice_get_past (slots p j) n past))
+        ]
+      where
+        each : (x : Option (List ℕ)) → option_map_or (λ key. counts p k key r) x false ≡ option_map_or (λ key. counts p j key r) x false
+        each None = refl
+        each (Some key) = counting key
+
+        beyond : (x : Option (List ℕ)) → slice_get (slots p k) n ≡ x → length (slots p j) ≤ n → option_map_or (λ key. counts p k key r) (slice_get (slots p k) n) false ≡ false
+        beyond None none past = ap (λ x. option_map_or (λ key. counts p k key r) x false) none
+        beyond (Some key) some past = ap (λ x. option_map_or (λ key. counts p k key r) x false) some ∙ counting key ∙ late key some past

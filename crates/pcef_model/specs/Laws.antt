@@ -29,7 +29,7 @@ use Rattle.pcef_rule.specs.declared.quantity.Slot.{Slot}
 use Rattle.pcef_model.specs.Refusals.{refusals_within, total_down, total_now, total_up}
 use Rattle.pcef_model.specs.Outcomes.{changes}
 use Rattle.pcef_rule.specs.declared.quantity.Sums.{Sums}
-use Rattle.pcef_model.specs.Slots.{CountsFor, IsWithin}
+use Rattle.pcef_model.specs.Slots.{CountsFor}
 use Rattle.pcef_model.specs.Lawful.{BatchFollows, Lawful}
 
 -- an earlier generation stays as it was made
@@ -82,7 +82,7 @@ WaitingRowsStayBesideOthers = (p : Setting) (j : Journal) (other : Row) (worker 
     BatchFollows p (entry.Row other ∷ j) worker rs
 
 abbrev pub SlotsStay : Type 0
-SlotsStay = (p : Setting) (j : Journal) (c : Command) (row : Row) (own : List Slot) → row.generation ≤ gen j → IsWithin (slots p j) own →
+SlotsStay = (p : Setting) (j : Journal) (c : Command) (row : Row) (own : List Slot) → row.generation ≤ gen j →
     CountsFor p j row own → CountsFor p (entry.Command c ∷ j) row own
 
 -- at most eight keys have a slot

@@ -28,6 +28,7 @@ use Rattle.pcef_bearer.specs.Standing.{binding_of}
 use Rattle.pcef_model.specs.Lawful.{at_first, by_attach, by_leave}
 use Rattle.pcef_model.specs.Refusals.{attach_faults, first_of, is_attached}
 use Rattle.pcef_session.specs.Shown.{Shows, ShowsSessionKeys}
+use Rattle.pcef_session.proofs.SessionKeys.{ShowsByKey, by_slot}
 use Rattle.pcef_table.specs.SessionSlots.{no_slots}
 use Rattle.pcef_session.proofs.ShownLater.{shows_same}
 
@@ -56,9 +57,12 @@ pub triggers_first : (t : TriggerSet) → t.usage_report ≡ false → t.rat_cha
 triggers_first t usage rat plmn location zone =
     flags_first t.usage_report t.rat_change t.plmn_change t.user_location_change t.ue_time_zone_change usage rat plmn location zone
 
-session_first : (p : Setting) → ShowsSessionKeys p [] 0 no_slots
+first_by_key : (p : Setting) → ShowsByKey p [] 0 no_slots
 unfolding made_by oldest slots_of
-session_first p = record { eight = refl; within = tt; on_is = λ key. refl }
+first_by_key p = record { eight = refl; within = tt; on_is = λ key. refl }
+
+session_first : (p : Setting) → ShowsSessionKeys p [] 0 no_slots
+session_first p = by_slot p [] 0 no_slots (first_by_key p)
 
 shows_first : (p : Setting) (t : TableValue) → t.number ≡ 0 → t.entries ≡ [] → t.session ≡ no_slots → Shows p [] 0 t
 unfolding made_by oldest

@@ -1,15 +1,15 @@
 -- A session that has taken rows over agrees with the journal after them.
 use Rattle.std.proofs.Common.{◌≡◌, ◌∙◌, ◌≤◌, ◌<◌, ◌+◌, ◌*◌, ◌^◌, ℕ, suc, zero, Bool, List, [], ◌∷◌, length, refl, sym, ap, subst, arith, inl, inr, map, Some, None, All, not, nat_lt, get_or}
-use Rattle.std.specs.List.{AllByRecursion, list_any}
-use Rattle.std.specs.Option.{option_map}
+use Rattle.std.specs.List.{AllByRecursion}
+use Rattle.std.specs.Option.{option_map_or}
+use Rattle.std.specs.Prelude.{false, slice_get}
 use Rattle.std.proofs.lemmas.Bool.{cases_Bool, ltb-false}
 use Rattle.std.proofs.lemmas.List.{length-map}
 use Rattle.std.proofs.lemmas.List.Elements.{All-cons, All-head, All-nil, All-tail, recursion_from_All}
 use Rattle.pcef_rule.specs.declared.quantity.Slot.{Slot}
 use Rattle.pcef_model.specs.declared.entry.Entry.TheVariants as entry
 use Rattle.pcef_model.specs.declared.row.Row.{Row}
-use Rattle.pcef_model.specs.Setting.{Setting, same_name}
-use Rattle.pcef_model.specs.Commands.{is_among}
+use Rattle.pcef_model.specs.Setting.{Setting}
 use Rattle.pcef_model.specs.Generations.{made_by, slots_of}
 use Rattle.pcef_model.specs.Entries.{Journal, commands, rows}
 use Rattle.pcef_model.specs.Journals.{counts, gen, level_of, now, octets_of, slots, subscribed, tables}
@@ -18,24 +18,21 @@ use Rattle.pcef_usage.specs.declared.usage.KeyState.{KeyState}
 use Rattle.pcef_usage.specs.Flushes.{rows_counted}
 use Rattle.pcef_usage.specs.Keys.{keys_of, levels_of, state_at, with_octets}
 use Rattle.pcef_usage.specs.Counted.{Counted}
-use Rattle.pcef_usage.specs.PendingReports.{Distinct, settled_states, threshold_reports, after_reports, appended}
+use Rattle.pcef_usage.specs.PendingReports.{settled_states, threshold_reports, after_reports, appended}
 use Rattle.pcef_model.proofs.AfterEvents.{subscribed_settled}
 use Rattle.pcef_usage.proofs.Endings.{Ended}
 use Rattle.pcef_usage.proofs.Flushed.{StatesAgree, can_count, flush_is, row_agrees, rows_ended, subscribed_after_rows}
-use Rattle.pcef_usage.proofs.Loops.{key_among}
 use Rattle.pcef_usage.proofs.Rows as usage
-use Rattle.pcef_usage.proofs.Slots.{distinct_slots}
 use Rattle.pcef_session.specs.declared.batch.Item.{Item}
 use Rattle.pcef_session.specs.private.Parts.{Agrees, Parts}
 use Rattle.pcef_session.specs.Agreement.{KeyAgrees}
 use Rattle.pcef_session.specs.private.TakenRows.{CanCountAll, IsTaken}
 use Rattle.pcef_session.specs.Following.{HasItsSlots, HasSmallRows, row_of, row_slots}
-use Rattle.pcef_model.specs.Slots.{AreSlotsBelow, CountsFor, IsWithin, has_one_of, is_at, place_of}
+use Rattle.pcef_model.specs.Slots.{AreSlotsBelow, CountsFor}
+use Rattle.pcef_model.proofs.SlotsOf.{slot_is, slots_below}
 use Rattle.pcef_bearer.specs.Standing.{binding_of}
 use Rattle.pcef_model.specs.Lawful.{BatchFollows, Lawful, by_flush}
 use Rattle.pcef_model.specs.declared.trigger.TriggerSet.{TriggerSet}
-use Rattle.pcef_lists.proofs.Tests.{contrary}
-use Rattle.pcef_model.proofs.Sameness.{same_name_is, same_name_self}
 use Rattle.pcef_model.specs.declared.answer.FlushRefusal.TheVariants as flush
 use Rattle.pcef_session.specs.declared.state.SessionState.TheInside.{Inside}
 use Rattle.pcef_model.specs.Refusals.{first_of, flush_refusals, is_attached}
@@ -59,26 +56,19 @@ use Rattle.pcef_model.proofs.JournalExtends.{rows_after_flush, tables_after_flus
 
 -- ---- slots and the keys that have them
 -- a key stands at its place
-place_here : (states : List KeyState) (n : ℕ) → n < length states → Distinct (keys_of states) → place_of (state_at n states).key (keys_of states) ≡ Some n
-place_here [] n within distinct = absurd (omega arith)
-place_here (s ∷ states) zero within distinct = rw (same_name_self s.key) refl
-place_here (s ∷ states) (suc n) within distinct =
-    elim (cases_Bool (same_name (state_at n states).key s.key)) [
-      | inl same ↦
-          let one : (state_at n states).key ≡ s.key = same_name_is (state_at n states).key s.key same in
-          contrary (is_among s.key (keys_of states)) (ap (λ k. is_among k (keys_of states)) (sym one) ∙ key_among n states (omega (arith, within))) distinct.0
-      | inr differs ↦ rw differs (ap (option_map (λ m. suc m)) (place_here states n (omega (arith, within)) distinct.1))
-    ]
+key_here : (states : List KeyState) (n : ℕ) → n < length states → slice_get (keys_of states) n ≡ Some (state_at n states).key
+key_here [] n within = absurd (omega (arith, within))
+key_here (s ∷ states) zero within = refl
+key_here (s ∷ states) (suc n) within = key_here states n (omega (arith, within))
 
 -- a row counts for the keys of its slots, by the counters
-counts_here : (p : Setting) (j : Journal) (r : Row) (own : List Slot) (states : List KeyState) → keys_of states ≡ slots p j → IsWithin (slots p j) own → CountsFor p j r own →
-    usage.CountsFor p j r states own
-counts_here p j r own states keys within counts =
+counts_here : (p : Setting) (j : Journal) (r : Row) (own : List Slot) (states : List KeyState) → keys_of states ≡ slots p j → CountsFor p j r own → usage.CountsFor p j r states own
+counts_here p j r own states keys are =
     let many : length (slots p j) ≡ length states = sym (ap length keys) ∙ length-map states (λ s. s.key) in
-    let distinct : Distinct (keys_of states) = subst Distinct (sym keys) (distinct_slots p (tables j)) in (
-      subst (λ n. AreSlotsBelow n own) many within,
-      λ n inside. counts (state_at n states).key ∙ ap (λ ks. has_one_of ks own (state_at n states).key) (sym keys)
-          ∙ ap (λ o. list_any (λ (slot : Slot). is_at o slot.0) own) (place_here states n inside distinct),
+    let test : List ℕ → Bool = λ key. counts p j key r in (
+      subst (λ n. AreSlotsBelow n own) many (slots_below (slots p j) test own are),
+      λ n inside. sym (slot_is (slots p j) test own n are
+          ∙ ap (λ o. option_map_or test o false) (ap (λ ks. slice_get ks n) (sym keys) ∙ key_here states n inside)),
     )
 
 -- ---- octets that fit
@@ -94,13 +84,13 @@ pub can_count_all : (p : Setting) (j : Journal) (items : List Item) (states : Li
     All (λ (r : Row). r.header.octets < 2 ^ 32) (rows j) → length (rows j) + length items ≤ 4294967295 → CanCountAll items states
 can_count_all p j [] states agrees its small old few = tt
 can_count_all p j (i ∷ items) states agrees its small old few =
-    let here = All-head (λ (x : Item). IsWithin (slots p j) x.slots.items × CountsFor p j x.row x.slots.items) i items its in
+    let here = All-head (λ (x : Item). CountsFor p j x.row x.slots.items) i items its in
     let fits : i.row.header.octets < 4294967296 = All-head (λ (x : Item). x.row.header.octets < 2 ^ 32) i items small in
-    let which = counts_here p j i.row i.slots.items states agrees.keys_are here.0 here.1 in (
+    let which = counts_here p j i.row i.slots.items states agrees.keys_are here in (
       can_count p j i.row i.slots.items states which agrees.counts (λ key.
           let most = bounded (counts p j key) (rows j) old in omega (arith, most, fits, few)),
       can_count_all p (entry.Row i.row ∷ j) items (with_octets i.slots.items i.row.header.octets states) (row_agrees p j i.row i.slots.items states which agrees)
-          (All-tail (λ (x : Item). IsWithin (slots p j) x.slots.items × CountsFor p j x.row x.slots.items) i items its) (All-tail (λ (x : Item). x.row.header.octets < 2 ^ 32) i items small)
+          (All-tail (λ (x : Item). CountsFor p j x.row x.slots.items) i items its) (All-tail (λ (x : Item). x.row.header.octets < 2 ^ 32) i items small)
           (All-cons (λ (x : Row). x.header.octets < 2 ^ 32) i.row (rows j) fits old) (omega (arith, few)),
     )
 
@@ -145,7 +135,7 @@ are_counted p j [] b old new agrees levels is subscribes its taken =
 are_counted p j (i ∷ items) b old new agrees levels is subscribes its taken =
     let which : AllByRecursion (λ (x : Item). usage.CountsFor p j x.row old.states x.slots.items) (i ∷ items) =
     recursion_from_All (λ (x : Item). usage.CountsFor p j x.row old.states x.slots.items) (i ∷ items)
-    (λ n x within. let its_n = its n x within in counts_here p j (get_or (i ∷ items) n x).row (get_or (i ∷ items) n x).slots.items old.states agrees.keys_are its_n.0 its_n.1) in
+    (λ n x within. let its_n = its n x within in counts_here p j (get_or (i ∷ items) n x).row (get_or (i ∷ items) n x).slots.items old.states agrees.keys_are its_n) in
     let ended = rows_ended row_of row_slots p j (i ∷ items) old.states b agrees.keys_are agrees.counts agrees.on which subscribes in
     let left : List KeyState = after_reports (threshold_reports b (rows_counted row_of row_slots (i ∷ items) old.states)) (settled_states b (rows_counted row_of row_slots (i ∷ items) old.states)) in
     let end : Journal = appended (threshold_reports b (rows_counted row_of row_slots (i ∷ items) old.states)) (settled_states b (rows_counted row_of row_slots (i ∷ items) old.states))

@@ -15,6 +15,7 @@ pub mod Refused
 pub mod RoomRates
 pub mod RowLoops
 pub mod SessionFlags
+pub mod SessionKeys
 pub mod ShownChanges
 pub mod ShownLater
 pub mod ShownSession

@@ -8,7 +8,8 @@ use Rattle.std.proofs.lemmas.List.{get_or-set_other, get_or-set_same}
 use Rattle.pcef_lists.proofs.Tests.{contrary}
 use Rattle.pcef_rule.specs.declared.quantity.Slot.{Slot}
 use Rattle.pcef_table.specs.SessionSlots.{slots_from, slots_up, with_slot}
-use Rattle.pcef_model.specs.Slots.{AreSlotsBelow, IsWithin, has_one_of, is_at, is_one_of, place_of}
+use Rattle.pcef_model.specs.Slots.{AreSlotsBelow, is_one_of, place_of}
+use Rattle.pcef_model.proofs.SlotWords.{IsWithin, has_one_of, is_at}
 
 no_or : (a : Bool) → (a || false) ≡ a
 no_or true = refl

@@ -16,7 +16,8 @@ use Rattle.pcef_model.specs.Entries.{Journal}
 use Rattle.pcef_model.specs.Journals.{at, gen, level_of, now, slots}
 use Rattle.pcef_model.specs.Lawful.{Lawful}
 use Rattle.pcef_model.specs.Refusals.{clashes, first_of, refusals}
-use Rattle.pcef_model.specs.Slots.{IsWithin, has_one_of, place_of}
+use Rattle.pcef_model.specs.Slots.{place_of}
+use Rattle.pcef_model.proofs.SlotWords.{IsWithin, has_one_of}
 use Rattle.pcef_model.proofs.Acceptance.{monitor_accepted}
 use Rattle.pcef_model.proofs.Growth.{at_newest}
 use Rattle.pcef_model.proofs.Levels.{among_add, new_without, session_has_slot, session_keys_have_no_rule}
@@ -27,10 +28,11 @@ use Rattle.pcef_model.proofs.SlotsLater.{place_within, slots_grown, within_grown
 use Rattle.pcef_usage.proofs.Gone.{among_filter}
 use Rattle.pcef_session.specs.Shown.{ShowsSessionKeys, is_session_on}
 use Rattle.pcef_session.proofs.SessionFlags.{flag_set, has_at, has_none, is_up, up_within, within_up}
+use Rattle.pcef_session.proofs.SessionKeys.{ShowsByKey, by_key, by_slot}
 
 -- ---- as the journal grows
-pub session_later : (p : Setting) (j k : Journal) (g : ℕ) (flags : List Bool) → at p k g ≡ at p j g → Grows (slots p j) (slots p k) → ShowsSessionKeys p j g flags → ShowsSessionKeys p k g flags
-session_later p j k g flags same grows shows = record {
+later_by_key : (p : Setting) (j k : Journal) (g : ℕ) (flags : List Bool) → at p k g ≡ at p j g → Grows (slots p j) (slots p k) → ShowsByKey p j g flags → ShowsByKey p k g flags
+later_by_key p j k g flags same grows shows = record {
   eight = shows.eight;
   within = within_grown (slots p j) (slots p k) (slots_up flags) grows shows.within;
   on_is = λ key.
@@ -39,9 +41,9 @@ session_later p j k g flags same grows shows = record {
 
 -- ---- as a table command comes
 -- it leaves each key of session level as it was
-pub session_next : (p : Setting) (j : Journal) (c : Command) (flags : List Bool) → at p (entry.Command c ∷ j) (gen (entry.Command c ∷ j)) ≡ next p (now p j) c →
-    ((key : List ℕ) → is_session_on (next p (now p j) c) key ≡ is_session_on (now p j) key) → ShowsSessionKeys p j (gen j) flags → ShowsSessionKeys p (entry.Command c ∷ j) (gen (entry.Command c ∷ j)) flags
-session_next p j c flags after same shows =
+next_by_key : (p : Setting) (j : Journal) (c : Command) (flags : List Bool) → at p (entry.Command c ∷ j) (gen (entry.Command c ∷ j)) ≡ next p (now p j) c →
+    ((key : List ℕ) → is_session_on (next p (now p j) c) key ≡ is_session_on (now p j) key) → ShowsByKey p j (gen j) flags → ShowsByKey p (entry.Command c ∷ j) (gen (entry.Command c ∷ j)) flags
+next_by_key p j c flags after same shows =
     let k : Journal = entry.Command c ∷ j in
     record {
       eight = shows.eight;
@@ -52,11 +54,11 @@ session_next p j c flags after same shows =
     }
 
 -- it switches one
-pub session_set : (p : Setting) (j : Journal) (c : Command) (key : List ℕ) (n : ℕ) (b : Bool) (flags : List Bool) →
+set_by_key : (p : Setting) (j : Journal) (c : Command) (key : List ℕ) (n : ℕ) (b : Bool) (flags : List Bool) →
     at p (entry.Command c ∷ j) (gen (entry.Command c ∷ j)) ≡ next p (now p j) c → place_of key (slots p (entry.Command c ∷ j)) ≡ Some n → n < 8 →
-    ((k : List ℕ) → is_session_on (next p (now p j) c) k ≡ (if same_name k key then b else is_session_on (now p j) k)) → ShowsSessionKeys p j (gen j) flags →
-    ShowsSessionKeys p (entry.Command c ∷ j) (gen (entry.Command c ∷ j)) (set flags n b)
-session_set p j c key n b flags after place few switches shows =
+    ((k : List ℕ) → is_session_on (next p (now p j) c) k ≡ (if same_name k key then b else is_session_on (now p j) k)) → ShowsByKey p j (gen j) flags →
+    ShowsByKey p (entry.Command c ∷ j) (gen (entry.Command c ∷ j)) (set flags n b)
+set_by_key p j c key n b flags after place few switches shows =
     let after_j : Journal = entry.Command c ∷ j in
     let keys : List (List ℕ) = slots p after_j in
     let grown = slots_grow_by p j c in
@@ -103,13 +105,33 @@ and_no : (a : Bool) → (a && false) ≡ false
 and_no true = refl
 and_no false = refl
 
-pub session_ended : (p : Setting) (j : Journal) → at p (entry.Command Terminate ∷ j) (gen (entry.Command Terminate ∷ j)) ≡ next p (now p j) Terminate →
-    ShowsSessionKeys p (entry.Command Terminate ∷ j) (gen (entry.Command Terminate ∷ j)) no_slots
-session_ended p j after = record {
+ended_by_key : (p : Setting) (j : Journal) → at p (entry.Command Terminate ∷ j) (gen (entry.Command Terminate ∷ j)) ≡ next p (now p j) Terminate →
+    ShowsByKey p (entry.Command Terminate ∷ j) (gen (entry.Command Terminate ∷ j)) no_slots
+ended_by_key p j after = record {
   eight = refl;
   within = tt;
   on_is = λ key. ap (λ (q : Generation). is_session_on q key) after ∙ and_no (is_among key (at_session_level Terminate (now p j).session));
 }
+
+-- ---- slot by slot
+pub session_later : (p : Setting) (j k : Journal) (g : ℕ) (flags : List Bool) → at p k g ≡ at p j g → Grows (slots p j) (slots p k) → ShowsSessionKeys p j g flags → ShowsSessionKeys p k g flags
+session_later p j k g flags same grows shows = by_slot p k g flags (later_by_key p j k g flags same grows (by_key p j g flags shows))
+
+pub session_next : (p : Setting) (j : Journal) (c : Command) (flags : List Bool) → at p (entry.Command c ∷ j) (gen (entry.Command c ∷ j)) ≡ next p (now p j) c →
+    ((key : List ℕ) → is_session_on (next p (now p j) c) key ≡ is_session_on (now p j) key) → ShowsSessionKeys p j (gen j) flags → ShowsSessionKeys p (entry.Command c ∷ j) (gen (entry.Command c ∷ j)) flags
+session_next p j c flags after same shows =
+    by_slot p (entry.Command c ∷ j) (gen (entry.Command c ∷ j)) flags (next_by_key p j c flags after same (by_key p j (gen j) flags shows))
+
+pub session_set : (p : Setting) (j : Journal) (c : Command) (key : List ℕ) (n : ℕ) (b : Bool) (flags : List Bool) →
+    at p (entry.Command c ∷ j) (gen (entry.Command c ∷ j)) ≡ next p (now p j) c → place_of key (slots p (entry.Command c ∷ j)) ≡ Some n → n < 8 →
+    ((k : List ℕ) → is_session_on (next p (now p j) c) k ≡ (if same_name k key then b else is_session_on (now p j) k)) → ShowsSessionKeys p j (gen j) flags →
+    ShowsSessionKeys p (entry.Command c ∷ j) (gen (entry.Command c ∷ j)) (set flags n b)
+session_set p j c key n b flags after place few switches shows =
+    by_slot p (entry.Command c ∷ j) (gen (entry.Command c ∷ j)) (set flags n b) (set_by_key p j c key n b flags after place few switches (by_key p j (gen j) flags shows))
+
+pub session_ended : (p : Setting) (j : Journal) → at p (entry.Command Terminate ∷ j) (gen (entry.Command Terminate ∷ j)) ≡ next p (now p j) Terminate →
+    ShowsSessionKeys p (entry.Command Terminate ∷ j) (gen (entry.Command Terminate ∷ j)) no_slots
+session_ended p j after = by_slot p (entry.Command Terminate ∷ j) (gen (entry.Command Terminate ∷ j)) no_slots (ended_by_key p j after)
 
 -- ---- what a command makes of keys of session level
 kept_on : (key : List ℕ) (test : List ℕ → Bool) (keys : List (List ℕ)) → test key ≡ true → is_among key (filter test keys) ≡ is_among key keys

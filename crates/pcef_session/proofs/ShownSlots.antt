@@ -15,22 +15,25 @@ use Rattle.pcef_table.specs.Tables.{TableValue}
 use Rattle.pcef_table.specs.SessionSlots.{slots_counted}
 use Rattle.pcef_table.specs.Verdicts.{counted_slot, slot_for}
 use Rattle.pcef_session.proofs.SessionFlags.{with_up, with_up_within}
+use Rattle.pcef_session.proofs.SessionKeys.{by_key}
 use Rattle.pcef_lists.proofs.Foremost.{found_is_foremost}
 use Rattle.pcef_model.specs.Setting.{Setting, most_keys, same_name}
 use Rattle.pcef_model.specs.ActiveRules.{Active, decisive, is_decisive, is_key}
 use Rattle.pcef_model.specs.Generations.{Generation}
 use Rattle.pcef_model.specs.Commands.{is_among}
 use Rattle.pcef_model.specs.Entries.{Journal}
-use Rattle.pcef_model.specs.Journals.{Decision, at, counts_in, decided_by, decision, gated, verdict_at, passed, slots, stray, unmatched, verdict_of, passed_for}
+use Rattle.pcef_model.specs.Journals.{Decision, at, counts_in, decided_by, decision, gated, verdict_at, passed, slots, stray, tables, unmatched, verdict_of, passed_for}
 use Rattle.pcef_lists.proofs.Tests.{contrary}
 use Rattle.pcef_model.proofs.Sameness.{same_name_is, same_name_of}
-use Rattle.pcef_model.specs.Slots.{IsWithin, has_one_of, is_at, counts_now, place_of, slot_of}
+use Rattle.pcef_model.specs.Slots.{AreSlotsOf, counts_now, place_of, slot_of}
+use Rattle.pcef_model.proofs.SlotWords.{IsWithin, has_one_of, is_at}
 use Rattle.pcef_session.specs.Shown.{Shows, StandsFor}
 use Rattle.pcef_model.proofs.BoundRules.{NamesOnce}
 use Rattle.pcef_model.proofs.SlotsGrow.{HasSlot, shown_slots}
 use Rattle.pcef_model.proofs.Decisive.{once_is}
 use Rattle.pcef_session.proofs.ShownVerdicts.{rule_is}
 use Rattle.pcef_model.proofs.SlotPlaces.{place_once, place_there}
+use Rattle.pcef_model.proofs.SlotsOf.{are_slots_of, slots_once}
 use Rattle.pcef_model.proofs.SlotsLater.{place_within}
 use Rattle.pcef_lists.proofs.Found.{find_some}
 
@@ -142,8 +145,8 @@ joined false true false = refl
 joined false false true = refl
 joined false false false = refl
 
--- the slots that a table gives to a verdict are those of the keys that the packet counts for
-pub shown_counts : (p : Setting) (j : Journal) (g : ℕ) (t : TableValue) (header : Header) (v : Verdict) (key : List ℕ) → Shows p j g t → NamesOnce (at p j g).rules →
+-- the keys of the slots that a table gives to a verdict are those that the packet counts for
+shown_counts : (p : Setting) (j : Journal) (g : ℕ) (t : TableValue) (header : Header) (v : Verdict) (key : List ℕ) → Shows p j g t → NamesOnce (at p j g).rules →
     v ≡ verdict_at p (at p j g) header → counts_in p (at p j g) key header ≡ has_one_of (slots p j) (slots_counted p.catalog t v) key
 shown_counts p j g t header v key shows once is = rw is (from (decision p (at p j g) header) refl)
   where
@@ -160,13 +163,13 @@ shown_counts p j g t header v key shows once is = rw is (from (decision p (at p 
         slot_counts (slots p j) (at p j g).on r.properties.key w.0.counted w.0.slot key w.2.counted_is w.2.slot_is (shown_slots p j g r there)
         ∙ ap (λ (o : Option TableEntry). has_one_of (slots p j) (option_to_list (option_map_or counted_slot o None)) key) (sym w.1) in
         joined (is_key key r.properties.key) (is_among key (at p j g).session) (is_among key (at p j g).on)
-        ∙ ap₂ (λ a b. a || b) (shows.session.on_is key) rule
+        ∙ ap₂ (λ a b. a || b) ((by_key p j g t.session shows.session).on_is key) rule
         ∙ sym (with_up (slots p j) t.session own key (λ s some.
         let inside = counted_within p j g t r.properties.name (find (λ (e : TableEntry). is_named p.catalog r.properties.name e.source) t.entries) shows refl s some in
         let eight = shows.session.eight in omega (arith, inside.0, eight)))
 
 -- and they are slots of keys
-pub shown_within : (p : Setting) (j : Journal) (g : ℕ) (t : TableValue) (v : Verdict) → Shows p j g t → IsWithin (slots p j) (slots_counted p.catalog t v)
+shown_within : (p : Setting) (j : Journal) (g : ℕ) (t : TableValue) (v : Verdict) → Shows p j g t → IsWithin (slots p j) (slots_counted p.catalog t v)
 shown_within p j g t Stray shows = tt
 shown_within p j g t Unmatched shows = tt
 shown_within p j g t (Gated rule) shows = tt
@@ -175,4 +178,11 @@ shown_within p j g t (Passed rule bearer) shows =
     (λ s some.
     let inside = counted_within p j g t rule (find (λ (e : TableEntry). is_named p.catalog rule e.source) t.entries) shows refl s some in
     let eight = shows.session.eight in (omega (arith, inside.0, eight), inside.1))
-    shows.session.within
+    (by_key p j g t.session shows.session).within
+
+-- so these are the slots of those keys
+pub shown_slots_of : (p : Setting) (j : Journal) (g : ℕ) (t : TableValue) (header : Header) (v : Verdict) → Shows p j g t → NamesOnce (at p j g).rules → v ≡ verdict_at p (at p j g) header →
+    AreSlotsOf (slots p j) (λ key. counts_in p (at p j g) key header) (slots_counted p.catalog t v)
+shown_slots_of p j g t header v shows once is =
+    are_slots_of (slots p j) (λ key. counts_in p (at p j g) key header) (slots_counted p.catalog t v) (slots_once p (tables j)) (shown_within p j g t v shows)
+    (λ key. shown_counts p j g t header v key shows once is)

@@ -6,7 +6,7 @@ use Rattle.pcef_model.specs.Setting.{Setting, most_keys}
 use Rattle.pcef_model.specs.Entries.{Journal}
 use Rattle.pcef_model.specs.Journals.{slots}
 use Rattle.pcef_session.specs.declared.batch.Item.{Item}
-use Rattle.pcef_model.specs.Slots.{CountsFor, IsWithin}
+use Rattle.pcef_model.specs.Slots.{CountsFor}
 
 abbrev pub row_of : Item → Row
 row_of i = i.row
@@ -14,9 +14,9 @@ row_of i = i.row
 abbrev pub row_slots : Item → List Slot
 row_slots i = i.slots.items
 
--- each row counts for the keys of its slots
+-- each row's slots are those of the keys that it counts for
 abbrev pub HasItsSlots : Setting → Journal → List Item → Type 0
-HasItsSlots p j items = All (λ i. IsWithin (slots p j) i.slots.items × CountsFor p j i.row i.slots.items) items
+HasItsSlots p j items = All (λ i. CountsFor p j i.row i.slots.items) items
 
 -- as many keys as may have a slot, or fewer
 abbrev pub HasFewKeys : Setting → Journal → Type 0

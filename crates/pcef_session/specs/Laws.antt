@@ -13,7 +13,7 @@ use Rattle.pcef_model.specs.Setting.{Setting}
 use Rattle.pcef_model.specs.Entries.{Journal}
 use Rattle.pcef_model.specs.Journals.{at, counts_in, gen, verdict_at, now, slots}
 use Rattle.pcef_model.specs.Refusals.{rate_of}
-use Rattle.pcef_model.specs.Slots.{has_one_of}
+use Rattle.pcef_model.specs.Slots.{AreSlotsOf}
 use Rattle.pcef_model.specs.Lawful.{Lawful}
 use Rattle.pcef_session.specs.Shown.{Shows}
 use Rattle.pcef_bearer.specs.Standing.{binding_of}
@@ -32,9 +32,9 @@ ShownTablesStay = (p : Setting) (j : Journal) (c : Command) (g : ℕ) (t : Table
 
 -- a table that shows a generation counts each packet for the keys that the generation says
 abbrev pub ShownTablesCount : Type 0
-ShownTablesCount = (p : Setting) (j : Journal) (g : ℕ) (t : TableValue) (header : Header) (v : Verdict) (key : List ℕ) → Shows p j g t →
+ShownTablesCount = (p : Setting) (j : Journal) (g : ℕ) (t : TableValue) (header : Header) (v : Verdict) → Shows p j g t →
     IsVerdict p.catalog t.entries p.ue header v →
-    counts_in p (at p j g) key header ≡ has_one_of (slots p j) (slots_counted p.catalog t v) key
+    AreSlotsOf (slots p j) (λ key. counts_in p (at p j g) key header) (slots_counted p.catalog t v)
 
 -- ---- bearers (TS 23.203, clause 6.1.1.4)
 -- each active rule stands on one bearer, that of its pair of QCI and ARP

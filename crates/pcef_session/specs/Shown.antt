@@ -1,19 +1,18 @@
 -- When a table shows a generation of the journal.
-use Rattle.std.specs.Prelude.{ℕ, ◌≡◌, ◌<◌, Bool, ◌&&◌, IfSome, List, Option, Some, length, slice_get, Contains}
-use Rattle.std.specs.Option.{option_map}
+use Rattle.std.specs.Prelude.{ℕ, ◌≡◌, ◌<◌, Bool, false, ◌&&◌, IfSome, List, Option, Some, get_or, length, slice_get, Contains}
+use Rattle.std.specs.Option.{option_map, option_map_or}
 use Rattle.pcef_table.specs.declared.entry.TableEntry.{TableEntry}
 use Rattle.pcef_table.specs.declared.entry.Source.{Source}
 use Rattle.pcef_table.specs.declared.entry.Source.TheVariants.{Dynamic, Predefined}
 use Rattle.pcef_catalog.specs.declared.listing.Offer.{Offer}
 use Rattle.pcef_table.specs.Tables.{IsTable, TableValue}
-use Rattle.pcef_table.specs.SessionSlots.{slots_up}
 use Rattle.pcef_model.specs.Setting.{Setting, most_keys}
 use Rattle.pcef_model.specs.Commands.{is_among}
 use Rattle.pcef_model.specs.Generations.{Generation}
 use Rattle.pcef_model.specs.ActiveRules.{Active, dynamic, predefined}
 use Rattle.pcef_model.specs.Entries.{Journal}
 use Rattle.pcef_model.specs.Journals.{at, slots}
-use Rattle.pcef_model.specs.Slots.{IsWithin, counts_now, has_one_of, slot_of}
+use Rattle.pcef_model.specs.Slots.{counts_now, slot_of}
 
 -- the rule of an entry
 abbrev pub rule_of : List Offer → Source → Option Active
@@ -32,11 +31,10 @@ pub record StandsFor (p : Setting) (j : Journal) (g : ℕ) (e : TableEntry) (r :
 abbrev pub is_session_on : Generation → List ℕ → Bool
 is_session_on g key = is_among key g.session && is_among key g.on
 
--- the flags of eight slots, of which those are up whose keys are of session level and on
+-- the flags of eight slots: flag n is up exactly where the key of slot n is of session level and on
 pub record ShowsSessionKeys (p : Setting) (j : Journal) (g : ℕ) (flags : List Bool) : Type 0 where
   pub eight : length flags ≡ most_keys
-  pub within : IsWithin (slots p j) (slots_up flags)
-  pub on_is : (key : List ℕ) → is_session_on (at p j g) key ≡ has_one_of (slots p j) (slots_up flags) key
+  pub up_is : (n : ℕ) → get_or flags n false ≡ option_map_or (is_session_on (at p j g)) (slice_get (slots p j) n) false
 
 -- the table of generation g: its entries stand for the active rules, and for no others, in precedence order, and its
 -- slots for all packets are those of the keys of session level that are on

@@ -20,7 +20,8 @@ use Rattle.pcef_model.specs.Reports.{requested, keys_ended, in_order, inactive, 
 use Rattle.pcef_model.proofs.Sameness.{same_name_is, same_name_not, same_name_turned}
 use Rattle.pcef_usage.specs.Commands.{OnAfter, switched_on}
 use Rattle.pcef_usage.specs.PendingReports.{ended, ends}
-use Rattle.pcef_usage.proofs.Slots.{and_no, or_assoc, or_false, stranger_off}
+use Rattle.pcef_model.proofs.Strangers.{stranger_off}
+use Rattle.pcef_usage.proofs.Slots.{and_no, or_assoc, or_false}
 use Rattle.pcef_model.proofs.RulesAfter.{filter_all}
 
 and_true : (a : Bool) → (a && true) ≡ a

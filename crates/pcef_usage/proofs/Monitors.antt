@@ -20,7 +20,8 @@ use Rattle.pcef_usage.specs.Keys.{at_place, finds_no_slot, fresh, has_slot, keys
 use Rattle.pcef_usage.specs.PendingReports.{AllCount, AllOn, Counts, Distinct, OnIs}
 use Rattle.pcef_usage.proofs.Places.{or_no}
 use Rattle.pcef_model.proofs.Reports.{reported_after_command}
-use Rattle.pcef_usage.proofs.Slots.{is_among_add, off_before_add, or_false, stranger_counted, stranger_off}
+use Rattle.pcef_model.proofs.Strangers.{stranger_off}
+use Rattle.pcef_usage.proofs.Slots.{is_among_add, off_before_add, or_false, stranger_counted}
 use Rattle.pcef_usage.proofs.Tells.{all_mapped, at_place_maps, has_slot_is}
 
 -- ---- a key that has no slot has no grant

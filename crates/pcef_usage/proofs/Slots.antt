@@ -1,4 +1,4 @@
--- Keys that have a slot: each stands once, and a key that has none was never on and counts nothing.
+-- Keys that have a slot: each stands once, and a key that has none counts nothing.
 use Rattle.std.proofs.Common.{◌≡◌, ◌∙◌, ℕ, Bool, true, false, List, [], ◌∷◌, ◌++◌, length, refl, sym, ap, arith, inl, inr, nat_le}
 use Rattle.std.specs.Prelude.{Err, IfOk, Ok, OnOk, Option, Result, Some, None, is_some, not, ◌||◌, ◌&&◌, filter}
 use Rattle.pcef_rule.specs.declared.quantity.Slot.{Slot}
@@ -6,16 +6,15 @@ use Rattle.pcef_usage.specs.declared.usage.SlotFault.{SlotFault}
 use Rattle.std.proofs.lemmas.Bool.{cases_Bool}
 use Rattle.std.proofs.lemmas.List.{map_push}
 use Rattle.pcef_model.specs.declared.command.Command.{Command}
-use Rattle.pcef_model.specs.declared.command.Command.TheVariants.{Install, Activate, Remove, Monitor, Stop, ReportNow, Triggers, Notice, LoseBearer, Close, Terminate}
 use Rattle.pcef_model.specs.declared.row.Row.{Row}
 use Rattle.pcef_model.specs.declared.level.Level.{Level}
 use Rattle.pcef_model.specs.Setting.{Setting, same_name}
-use Rattle.pcef_model.specs.ActiveRules.{has_key}
-use Rattle.pcef_model.specs.Generations.{add_if_some, made_by, oldest, rules_after, slots_of}
-use Rattle.pcef_model.specs.Commands.{add_key, is_among, key_named, switched}
+use Rattle.pcef_model.specs.Generations.{add_if_some, slots_of}
+use Rattle.pcef_model.specs.Commands.{add_key, is_among, key_named}
 use Rattle.pcef_model.specs.Entries.{Journal, rows}
-use Rattle.pcef_model.specs.Journals.{at, counted, counts, decision, now, octets_of, passed_for, slots, tables}
+use Rattle.pcef_model.specs.Journals.{counted, counts, now, octets_of, slots, tables}
 use Rattle.pcef_model.proofs.Sameness.{same_name_is, same_name_not, same_name_of}
+use Rattle.pcef_model.proofs.Strangers.{stranger_counts, stranger_off}
 use Rattle.pcef_usage.specs.declared.usage.KeyState.{KeyState}
 use Rattle.pcef_usage.specs.Keys.{IsSlotOf, fresh, has_slot, keys_of, place_of, with_slot}
 use Rattle.pcef_usage.specs.PendingReports.{Distinct}
@@ -70,61 +69,16 @@ is_among_add k l keys =
       | inr unknown ↦ rw unknown (is_among_append k l keys)
     ]
 
-pub is_among_filter : (k : List ℕ) (test : List ℕ → Bool) (keys : List (List ℕ)) → is_among k keys ≡ false → is_among k (filter test keys) ≡ false
-is_among_filter k test [] absent = refl
-is_among_filter k test (m ∷ keys) absent =
-    let parts = or_no (same_name k m) (is_among k keys) absent in
-    elim (cases_Bool (test m)) [
-      | inl passes ↦ rw passes (rw (parts.0, is_among_filter k test keys parts.1) refl)
-      | inr fails ↦ rw fails (is_among_filter k test keys parts.1)
-    ]
-
--- ---- a key that has no slot was never on
+-- ---- a key that has no slot
 pub off_before_add : (k : List ℕ) (named : Option (List ℕ)) (keys : List (List ℕ)) → is_among k (add_if_some named keys) ≡ false → is_among k keys ≡ false
 off_before_add k None keys absent = absent
 off_before_add k (Some l) keys absent = (or_no (is_among k keys) (same_name k l) (sym (is_among_add k l keys) ∙ absent)).0
-
-switched_off : (p : Setting) (c : Command) (keys on : List (List ℕ)) (k : List ℕ) →
-    is_among k (add_if_some (key_named p c) keys) ≡ false → is_among k on ≡ false → is_among k (switched c on) ≡ false
-switched_off p (Monitor l amount level) keys on k absent off =
-    is_among_add k l on ∙ (let parts = or_no (is_among k keys) (same_name k l) (sym (is_among_add k l keys) ∙ absent) in rw (off, parts.1) refl)
-switched_off p (Stop l) keys on k absent off = is_among_filter k (λ m. not (same_name l m)) on off
-switched_off p Terminate keys on k absent off = refl
-switched_off p (Install rule) keys on k absent off = off
-switched_off p (Activate name) keys on k absent off = off
-switched_off p (Remove name) keys on k absent off = off
-switched_off p (ReportNow l) keys on k absent off = off
-switched_off p (Triggers set) keys on k absent off = off
-switched_off p (Notice kind value) keys on k absent off = off
-switched_off p (LoseBearer id) keys on k absent off = off
-switched_off p Close keys on k absent off = off
-
-pub stranger_off : (p : Setting) (cs : List Command) (k : List ℕ) → is_among k (slots_of p cs) ≡ false → is_among k (made_by p cs).on ≡ false
-unfolding made_by slots_of
-stranger_off p [] k absent = refl
-stranger_off p (c ∷ cs) k absent =
-    let off = stranger_off p cs k (off_before_add k (key_named p c) (slots_of p cs) absent) in
-    is_among_filter k (λ l. not (has_key l (made_by p cs).rules) || has_key l (rules_after p (made_by p cs) c)) _ (switched_off p c (slots_of p cs) (made_by p cs).on k absent off)
-
-stranger_older : (p : Setting) (n : ℕ) (cs : List Command) (k : List ℕ) → is_among k (slots_of p cs) ≡ false → is_among k (slots_of p (oldest n cs)) ≡ false
-unfolding oldest slots_of
-stranger_older p n [] k absent = refl
-stranger_older p n (c ∷ cs) k absent =
-    elim (cases_Bool (nat_le n (length cs))) [
-      | inl is ↦ rw is (stranger_older p n cs k (off_before_add k (key_named p c) (slots_of p cs) absent))
-      | inr isnt ↦ rw isnt absent
-    ]
 
 -- no row counts for it
 none_counted : (test : Row → Bool) (rs : List Row) → ((r : Row) → test r ≡ false) → octets_of test rs ≡ 0
 unfolding octets_of
 none_counted test [] none = refl
 none_counted test (r ∷ rs) none = rw (none r) (omega (arith, none_counted test rs none))
-
-pub stranger_counts : (p : Setting) (j : Journal) (k : List ℕ) (r : Row) → is_among k (slots p j) ≡ false → counts p j k r ≡ false
-stranger_counts p j k r absent =
-    and_no (passed_for (at p j r.generation) k (decision p (at p j r.generation) r.header)) (is_among k (at p j r.generation).on)
-    (stranger_off p (oldest r.generation (tables j)) k (stranger_older p r.generation (tables j) k absent))
 
 pub stranger_counted : (p : Setting) (j : Journal) (k : List ℕ) → is_among k (slots p j) ≡ false → counted p j k ≡ 0
 stranger_counted p j k absent = none_counted (counts p j k) (rows j) (λ r. stranger_counts p j k r absent)

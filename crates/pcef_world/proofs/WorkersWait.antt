@@ -18,7 +18,7 @@ use Rattle.pcef_model.specs.Reports.{after_attach, after_flush, after_leave, wit
 use Rattle.pcef_model.proofs.AfterEvents.{tables_after_rows}
 use Rattle.pcef_session.specs.declared.batch.Item.{Item}
 use Rattle.pcef_world.specs.declared.worker.WorldWorker.{WorldWorker}
-use Rattle.pcef_model.specs.Slots.{CountsFor, IsWithin}
+use Rattle.pcef_model.specs.Slots.{CountsFor}
 use Rattle.pcef_session.specs.Following.{HasItsSlots, row_of}
 use Rattle.pcef_model.specs.Lawful.{BatchFollows, RowFollows, RowsFollow, newest_generation}
 use Rattle.pcef_model.specs.Refusals.{first_of, flush_refusals, is_attached}
@@ -28,10 +28,10 @@ use Rattle.pcef_model.proofs.Lanes.{lane_few, lane_len_with, lane_other, lane_wi
 use Rattle.pcef_model.proofs.JournalExtends.{JournalExtends, attached_after_flush, flushed_fits, extends_same, rows_after_flush, tables_after_flush}
 use Rattle.pcef_model.proofs.RowsLater.{batch_empty, batch_later, batch_push}
 use Rattle.pcef_session.proofs.ShownLater.{shows_later, shows_same}
-use Rattle.pcef_session.proofs.ShownSlots.{shown_counts, shown_within}
+use Rattle.pcef_session.proofs.ShownSlots.{shown_slots_of}
 use Rattle.pcef_model.proofs.Decisive.{made_once}
 use Rattle.pcef_session.proofs.ShownVerdicts.{shown_judges}
-use Rattle.pcef_model.proofs.SlotsLater.{counts_later, within_grown}
+use Rattle.pcef_model.proofs.SlotsLater.{counts_later}
 
 -- ---- the slots of rows that wait
 -- rows that may come are of generations that were made
@@ -45,8 +45,7 @@ rows_known p j (i ∷ items) follow =
 slots_later : (p : Setting) (j k : Journal) (items : List Item) → JournalExtends p j k → All (λ i. i.row.generation ≤ gen j) items → HasItsSlots p j items → HasItsSlots p k items
 slots_later p j k items extends known has = λ m d inside.
     let i : Item = slice_index_or items m d in
-    let own : IsWithin (slots p j) i.slots.items × CountsFor p j i.row i.slots.items = has m d inside in
-    (within_grown (slots p j) (slots p k) i.slots.items extends.grows own.0, counts_later p j k i.row i.slots.items (extends.at_is i.row.generation (known m d inside)) extends.grows own.0 own.1)
+    counts_later p j k i.row i.slots.items (extends.at_is i.row.generation (known m d inside)) extends.grows (has m d inside)
 
 -- ---- as the journal grows
 -- a worker whose lane is as it was
@@ -73,7 +72,7 @@ waits_new p j k w new is shows number_is none =
       known = omega (arith, shows.number_is);
       shows = subst (λ m. Shows p (after_attach j) m (held_by w)) (sym shows.number_is) (shows_same p j (after_attach j) (gen j) (held_by w) refl shows);
       follow = rw none (batch_empty p (attach_count j) (after_attach j));
-      slots = rw none (All-nil (λ (i : Item). IsWithin (slots p (after_attach j)) i.slots.items × CountsFor p (after_attach j) i.row i.slots.items));
+      slots = rw none (All-nil (λ (i : Item). CountsFor p (after_attach j) i.row i.slots.items));
       attached = ap (λ b. b || is_attached j (attach_count j)) (eq-eqb (attach_count j) (attach_count j) refl);
       few = omega (arith, ap length new);
       not_older = rw (none, new) (omega arith);
@@ -121,16 +120,15 @@ waits_take p j n w header i waits made =
     let mine : (i.row.worker == n) ≡ true = eq-eqb i.row.worker n own in
     let longer : with_rows (map row_of (w.waiting ++ i ∷ [])) j ≡ entry.Row i.row ∷ with_rows rs j = ap (λ xs. with_rows xs j) all ∙ with_rows_push rs i.row j in
     let follows = taken_follows p j n w header i.row waits (row_made p j n w header i waits made) in
-    let within : IsWithin (slots p j) i.slots.items = rw made.slots_are (shown_within p j (held_by w).number (held_by w) i.row.verdict waits.shows) in
-    let counting : CountsFor p j i.row i.slots.items = λ key.
+    let counting : CountsFor p j i.row i.slots.items =
     rw (made.generation_is, made.header_is, made.slots_are)
-    (shown_counts p j (held_by w).number (held_by w) header i.row.verdict key waits.shows (made_once p (oldest (held_by w).number (tables j))) (verdict_taken p j n w header i waits made)) in
+    (shown_slots_of p j (held_by w).number (held_by w) header i.row.verdict waits.shows (made_once p (oldest (held_by w).number (tables j))) (verdict_taken p j n w header i waits made)) in
     record {
       number_is = waits.number_is;
       known = waits.known;
       shows = waits.shows;
       follow = subst (BatchFollows p j n) (sym all) (batch_push p n j rs i.row waits.follow own follows);
-      slots = All-push (λ (x : Item). IsWithin (slots p j) x.slots.items × CountsFor p j x.row x.slots.items) w.waiting i waits.slots (within, counting);
+      slots = All-push (λ (x : Item). CountsFor p j x.row x.slots.items) w.waiting i waits.slots counting;
       attached = waits.attached;
       few = waits.few;
       not_older = rw (longer, mine) (omega (arith, made.generation_is));
@@ -166,7 +164,7 @@ waits_flushed p j k n w waits accepted is =
       known = omega (arith, waits.known, ap length same);
       shows = shows_same p j k (held_by w).number (held_by w) same waits.shows;
       follow = batch_empty p n k;
-      slots = All-nil (λ (i : Item). IsWithin (slots p k) i.slots.items × CountsFor p k i.row i.slots.items);
+      slots = All-nil (λ (i : Item). CountsFor p k i.row i.slots.items);
       attached = ap (λ ns. list_any (λ v. v == n) ns) (ap attached is ∙ attached_after_flush p j rs) ∙ waits.attached;
       few = omega (arith, longer, fits, lane_few n (rows j));
       not_older = subst (λ xs. newest_generation xs ≤ (held_by w).number) (sym lane_is) waits.not_older;

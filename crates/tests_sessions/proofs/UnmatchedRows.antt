@@ -1,17 +1,16 @@
 -- The first two rows of the first worker follow, where no command was given.
-use Rattle.std.proofs.Common.{◌≡◌, ◌&&◌, ℕ, List, [], ◌∷◌, map, Ok, Err, refl, sym, ap, subst, arith, inl, inr, if◌then◌else◌}
+use Rattle.std.proofs.Common.{◌≡◌, ℕ, List, [], ◌∷◌, map, Ok, Err, refl, sym, ap, subst, arith, inl, inr, if◌then◌else◌}
 use Rattle.std.proofs.lemmas.List.Elements.{All-nil, All-push}
 use Rattle.pcef_model.specs.declared.answer.AttachFault.TheVariants as attach
 use Rattle.pcef_model.specs.declared.entry.Entry.TheVariants as entry
 use Rattle.pcef_model.specs.declared.row.Row.{Row}
 use Rattle.pcef_model.specs.Setting.{Setting}
 use Rattle.pcef_model.specs.Entries.{Journal}
-use Rattle.pcef_model.specs.Generations.{at_first, made_by, oldest}
-use Rattle.pcef_model.specs.Commands.{is_among}
-use Rattle.pcef_model.specs.Journals.{attach_count, passed_for, slots, stray, unmatched, verdict_of}
+use Rattle.pcef_model.specs.Generations.{at_first, made_by, oldest, slots_of}
+use Rattle.pcef_model.specs.Journals.{attach_count, slots, stray, unmatched, verdict_of}
 use Rattle.pcef_model.specs.Lawful.{BatchFollows, RowFollows, RowsFollow}
 use Rattle.pcef_model.specs.Outcomes.{AttachStep, attach_outcome}
-use Rattle.pcef_model.specs.Slots.{CountsFor, IsWithin}
+use Rattle.pcef_model.specs.Slots.{CountsFor}
 use Rattle.pcef_packet.specs.Addresses.{is_assigned}
 use Rattle.pcef_session.specs.declared.batch.Item.{Item}
 use Rattle.pcef_session.specs.Following.{HasItsSlots, row_of}
@@ -64,13 +63,13 @@ two_follow p j items h alone is =
     subst (λ x. BatchFollows p x 0 (map row_of items)) (sym alone) (subst (λ xs. BatchFollows p attached 0 (map row_of xs)) (sym is) (both_follow p h))
 
 counts_for_none : (p : Setting) (n : ℕ) → p.ue ≡ ue → CountsFor p attached (unmatched_item n).row (unmatched_item n).slots.items
-unfolding made_by oldest
-counts_for_none p n h key = ap (λ a. passed_for at_first key (if is_assigned ue a then unmatched else stray) && is_among key []) h
+unfolding slots_of
+counts_for_none p n h m = refl
 
 both_slots : (p : Setting) → p.ue ≡ ue → HasItsSlots p attached two
 both_slots p h =
-    let its = λ (i : Item). IsWithin (slots p attached) i.slots.items × CountsFor p attached i.row i.slots.items in
-    All-push its (unmatched_item 0 ∷ []) (unmatched_item 1) (All-push its [] (unmatched_item 0) (All-nil its) (tt, counts_for_none p 0 h)) (tt, counts_for_none p 1 h)
+    let its = λ (i : Item). CountsFor p attached i.row i.slots.items in
+    All-push its (unmatched_item 0 ∷ []) (unmatched_item 1) (All-push its [] (unmatched_item 0) (All-nil its) (counts_for_none p 0 h)) (counts_for_none p 1 h)
 
 -- and count for no key
 pub two_slots : (p : Setting) (j : Journal) (items : List Item) → p.ue ≡ ue → j ≡ attached → items ≡ two → HasItsSlots p j items
