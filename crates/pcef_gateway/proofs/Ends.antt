@@ -87,24 +87,24 @@ runs_to p before arrivals given first listed workers dropped handed e add_up com
     let numbered : (n : ℕ) → n < length handed → (get_or handed n d).worker ≡ n = λ n below. hand_in.numbered n d below in
     let sum : sum_by (λ (h : HandedIn). length h.items) handed ≡ length (rows j) = rows_sum e.totals.session.setting j handed d lawful numbered add_up.many agree.0 in
     record {
-      setting_is = add_up.setting_is;
+      setting_is = add_up.rest.setting_is;
       attached = sym add_up.many ∙ hand_in.many;
       keys = add_up.keys_are;
       sums = add_up.sums;
       gathered = record {
-        many = ap length add_up.lists_are ∙ add_up.many;
-        lanes = subst (λ (hs : List HandedIn). HaveLanes j hs) (sym add_up.lists_are) agree.0;
-        gathered = subst (λ (hs : List HandedIn). AreGathered e.totals.keys hs) (sym add_up.lists_are) add_up.gathered;
-        abandoned_are = add_up.abandoned_are ∙ ap rows_abandoned (sym add_up.lists_are);
+        many = ap length add_up.rest.lists_are ∙ add_up.many;
+        lanes = subst (λ (hs : List HandedIn). HaveLanes j hs) (sym add_up.rest.lists_are) agree.0;
+        gathered = subst (λ (hs : List HandedIn). AreGathered e.totals.keys hs) (sym add_up.rest.lists_are) add_up.gathered;
+        abandoned_are = add_up.rest.abandoned_are ∙ ap rows_abandoned (sym add_up.rest.lists_are);
       };
-      rows_are = add_up.rows_are;
+      rows_are = add_up.rest.rows_are;
       lanes = λ w within.
           let there : w < length handed = omega (arith, within, hand_in.many) in
           let came : w < attach_count j = omega (arith, there, add_up.many) in
           let own : map header_of (get_or handed w d).items ≡ lane_headers j w =
           sym (headers_of_rows (get_or handed w d).items) ∙ ap (map (λ (r : Row). r.header)) (own_rows j handed w d numbered there (agree.0 w came)) in
           subst (λ hs. IsPrefix hs (headers_for w arrivals)) own (hand_in.first w d there);
-      whole = omega (arith, add_up.rows_are, add_up.abandoned_are, dropped_is, hand_in.whole, sum_of_rows handed, sum);
+      whole = omega (arith, add_up.rest.rows_are, add_up.rest.abandoned_are, dropped_is, hand_in.whole, sum_of_rows handed, sum);
       answers = have.many;
       memory = have.memory;
       commands_are = sym agree.1 ∙ have.listed_are ∙ ap (λ cs. cs ++ changing given e.answers.items) first_is;

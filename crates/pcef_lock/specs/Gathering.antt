@@ -71,24 +71,29 @@ AreCompared keeps handed = (keeps ≡ true) × All (λ h. h.keeps ≡ true) hand
 abbrev pub AgreeWith : Journal → List Command → List HandedIn → Type 0
 AgreeWith j listed handed = HaveLanes j handed × (listed ≡ reverse (commands j))
 
--- What the desk and the workers handed in adds up to this, with the session's journal (a pool is there or not): all
--- workers that were attached are there; where lists are compared, they agree; and for each key three sums of octets are
--- the same: those of the journal's rows that count for it, those of all own lists, and the reported with the unreported
--- ones.
-pub record AddUpTo {l : Type 0} (p : Setting) (is_there : Bool) (listed : List Command) (handed : List HandedIn) (t : Totals l) : Type 0 where
+-- what else the totals tell: of the session, all of its reports; its archive; what the workers handed in, and whether it
+-- was compared; how many rows there are, and how many were abandoned; and the rates that it has of a pool, if one is there
+pub record TellTheRest {l : Type 0} (p : Setting) (is_there : Bool) (handed : List HandedIn) (t : Totals l) : Type 0 where
   pub setting_is : t.session.setting ≡ p
-  pub many : length handed ≡ attach_count t.session.journal
-  pub compared_is : (t.compared ≡ true) ↔ AreCompared t.archive.keeps handed
-  pub agree : t.compared ≡ true → AgreeWith t.session.journal listed handed
-  pub archived : Archives t.session.journal t.archive
   pub all_reports : t.session.forgotten ≡ 0
-  pub keys_are : t.keys ≡ key_totals p t.session.journal
+  pub archived : Archives t.session.journal t.archive
   pub lists_are : t.lists ≡ handed
-  pub gathered : AreGathered t.keys handed
-  pub sums : All (λ k. k.counted ≡ k.reported + k.unreported) t.keys
+  pub compared_is : (t.compared ≡ true) ↔ AreCompared t.archive.keeps handed
   pub rows_are : t.rows ≡ length (rows t.session.journal)
   pub abandoned_are : t.abandoned ≡ rows_abandoned handed
   pub rates_are : t.rates ≡ rates_due is_there p t.session.journal
+
+-- what the desk and the workers handed in adds up to this, with the session's journal
+pub record AddUpTo {l : Type 0} (p : Setting) (is_there : Bool) (listed : List Command) (handed : List HandedIn) (t : Totals l) : Type 0 where
+  -- for each key three sums of octets are the same: those of the journal's rows that count for it, those of all own
+  -- lists, and the reported with the unreported ones
+  pub keys_are : t.keys ≡ key_totals p t.session.journal
+  pub gathered : AreGathered t.keys handed
+  pub sums : All (λ k. k.counted ≡ k.reported + k.unreported) t.keys
+  -- all workers that were attached are there, and where lists are compared, they agree
+  pub many : length handed ≡ attach_count t.session.journal
+  pub agree : t.compared ≡ true → AgreeWith t.session.journal listed handed
+  pub rest : TellTheRest p is_there handed t
 
 -- as many are handed in as workers were attached, and what is compared agrees with the journal
 abbrev pub CanGather : Bool → Journal → List Command → List HandedIn → Type 0

@@ -50,18 +50,20 @@ returns-clause-totals g c =
     ∙ gathered_all handed (length c.args.desk.commands) n below in
     let can : CanGather c.are_compared-compared.result j c.args.desk.commands handed = search rules in
     record {
-      setting_is = setting;
-      many = omega (arith, here, all, ap attach_count told, c.self.invariant.0.issued_is);
-      compared_is = search rules;
-      agree = λ compared. subst (λ (k : Journal). AgreeWith k c.args.desk.commands handed) (sym told) (can.1 compared);
-      archived = subst (λ (k : Journal). Archives k c.into_parts-session.result.1) (sym told) c.into_parts-session.ensures.archives;
-      all_reports = c.into_parts-session.ensures.kept;
       keys_are = keys ∙ ap (key_totals p) (sym told);
-      lists_are = c.all_shares-shares.ensures.lists;
       gathered = subst (λ (ks : List KeyTotal). AreGathered ks handed) (sym keys) (totals_gathered p j c.in-Ok.amounts handed few books shares);
       sums = subst (λ (ks : List KeyTotal). All (λ (k : KeyTotal). k.counted ≡ k.reported + k.unreported) ks) (sym keys)
           (totals_exact p j (subst (λ (q : Setting). Lawful q j) c.self.invariant.0.kept.setting_is c.gather_fault.ensures.lawful));
-      rows_are = ap (λ (xs : List ℕ). slice_index xs 8) c.in-Ok.ensures.totals ∙ c.self.invariant.0.kept.counted.rows_are ∙ ap (λ (k : Journal). length (rows k)) (sym told);
-      abandoned_are = search rules;
-      rates_are = c.self.invariant.1 ∙ ap (λ (q : Setting). rates_due g.P.Pooling.is_there q j) c.self.invariant.0.kept.setting_is ∙ ap (rates_due g.P.Pooling.is_there p) (sym told);
+      many = omega (arith, here, all, ap attach_count told, c.self.invariant.0.issued_is);
+      agree = λ compared. subst (λ (k : Journal). AgreeWith k c.args.desk.commands handed) (sym told) (can.1 compared);
+      rest = record {
+        setting_is = setting;
+        all_reports = c.into_parts-session.ensures.kept;
+        archived = subst (λ (k : Journal). Archives k c.into_parts-session.result.1) (sym told) c.into_parts-session.ensures.archives;
+        lists_are = c.all_shares-shares.ensures.lists;
+        compared_is = search rules;
+        rows_are = ap (λ (xs : List ℕ). slice_index xs 8) c.in-Ok.ensures.totals ∙ c.self.invariant.0.kept.counted.rows_are ∙ ap (λ (k : Journal). length (rows k)) (sym told);
+        abandoned_are = search rules;
+        rates_are = c.self.invariant.1 ∙ ap (λ (q : Setting). rates_due g.P.Pooling.is_there q j) c.self.invariant.0.kept.setting_is ∙ ap (rates_due g.P.Pooling.is_there p) (sym told);
+      };
     }
