@@ -10,17 +10,23 @@ ghost use Rattle.pcef_handle.specs.Working.{Abandons, Attaches, Belongs, Finishe
 use crate::held::OpenSession;
 use crate::naming::{NameRefusal, name_at};
 use pcef_built_in::ShapedCatalog;
+use pcef_flow::FlowCache;
 use pcef_model::{AttachFault, FlushRefusal, Verdicts};
 use pcef_packet::{Header, PacketFault};
 use pcef_session::Item;
 use pcef_world::ApartWorker;
+use std::alloc::Global;
 use std::marker::Model;
 
-/// A worker that is attached: the predefined rules, the worker, and the number of its session. The table that it holds
-/// is one of the predefined rules, so a packet is judged without the session.
+/// How many flows a worker remembers: some 5 KB.
+const MOST_FLOWS: usize = 64;
+
+/// A worker that is attached: the predefined rules, the worker, the flows that it judged last, and the number of its
+/// session. The table that it holds is one of the predefined rules, so a packet is judged without the session.
 pub struct AttachedWorker {
     catalog: ShapedCatalog,
     apart: ApartWorker,
+    flows: FlowCache,
     session: u64,
 }
 
@@ -30,6 +36,7 @@ impl Drop for AttachedWorker {
         let AttachedWorker {
             catalog: _,
             apart: _,
+            flows: _,
             session: _,
         } = self;
     }
@@ -37,6 +44,7 @@ impl Drop for AttachedWorker {
 
 impl Model for AttachedWorker {
     ghost use Rattle.std.specs.Prelude.{◌≤◌};
+    ghost use Rattle.pcef_flow.specs.Flows.{Remembers};
     ghost use Rattle.pcef_table.specs.Tables.{IsTable};
     ghost use Rattle.pcef_world.specs.Apart.{held_apart};
     ghost use Rattle.pcef_handle.specs.Attached.{Attached};
@@ -45,7 +53,8 @@ impl Model for AttachedWorker {
 
     ghost view = { λ w. record { catalog = w.catalog; apart = w.apart; session = w.session } };
 
-    ghost invariant = { λ w. IsTable w.catalog (held_apart w.apart).entries × (w.apart.handed_over ≤ 4294967295) };
+    ghost invariant = { λ w. IsTable w.catalog (held_apart w.apart).entries × (w.apart.handed_over ≤ 4294967295)
+        × Remembers w.catalog (held_apart w.apart).entries w.apart.ue w.flows };
 }
 
 /// Why no worker is attached: the first reason in this order.
@@ -90,7 +99,10 @@ pub enum MeetRefusal {
 impl AttachedWorker {
     /// Attaches a worker to a session. It holds the newest table, and no row waits. A refusal changes nothing of the
     /// session but the memory that it has in reserve.
-    pub(crate) fn attach(session: &mut OpenSession) -> Result<AttachedWorker, AttachFault>
+    pub(crate) fn attach(
+        alloc: Global,
+        session: &mut OpenSession,
+    ) -> Result<AttachedWorker, AttachFault>
         ensures { Attaches session.old result session.new }
     {
         if let Some(fault) = session.world.session().attach_fault() {
@@ -99,12 +111,19 @@ impl AttachedWorker {
         let Ok(catalog) = session.catalog.share() else {
             return Err(AttachFault::NoMemory);
         };
+        let Ok(mut flows) = FlowCache::new(alloc, MOST_FLOWS) else {
+            return Err(AttachFault::NoMemory);
+        };
         match session.world.attach_apart() {
-            Ok(apart) => Ok(AttachedWorker {
-                catalog,
-                apart,
-                session: session.number,
-            }),
+            Ok(apart) => {
+                flows.follow(&catalog, apart.held().table());
+                Ok(AttachedWorker {
+                    catalog,
+                    apart,
+                    flows,
+                    session: session.number,
+                })
+            }
             Err(fault) => Err(fault),
         }
     }
@@ -142,7 +161,7 @@ impl AttachedWorker {
     pub(crate) fn take(&mut self, header: &Header) -> Result<Option<u8>, TakeRefusal>
         ensures { TakesHeader self.old header.now result self.new }
     {
-        match self.apart.take(&self.catalog, header) {
+        match self.apart.take(&self.catalog, &mut self.flows, header) {
             Ok(Ok(taken)) => Ok(taken.place),
             Ok(Err(_)) => Err(TakeRefusal::Full),
             Err(_) => Err(TakeRefusal::NoMemory),
@@ -158,7 +177,10 @@ impl AttachedWorker {
             return Err(MeetRefusal::OtherSession);
         }
         match session.world.refresh_apart(&mut self.apart) {
-            Ok(generation) => Ok(generation),
+            Ok(generation) => {
+                self.flows.follow(&self.catalog, self.apart.held().table());
+                Ok(generation)
+            }
             Err(_) => Err(MeetRefusal::Session(FlushRefusal::NoMemory)),
         }
     }

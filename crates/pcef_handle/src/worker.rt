@@ -72,7 +72,7 @@ impl Handle {
         if worker.worker.is_some() {
             return Err(AttachRefusal::AlreadyAttached);
         }
-        match AttachedWorker::attach(session) {
+        match AttachedWorker::attach(self.alloc, session) {
             Ok(attached) => {
                 let number = attached.number();
                 worker.worker = Some(attached);

@@ -9,7 +9,7 @@ use Rattle.pcef_publish.proofs.Runs.{prefix_get}
 use Rattle.pcef_model.specs.Setting.{Setting}
 use Rattle.pcef_model.specs.Generations.{oldest}
 use Rattle.pcef_model.specs.Entries.{Journal}
-use Rattle.pcef_model.specs.Journals.{at, gen, verdict_at, slots, tables}
+use Rattle.pcef_model.specs.Journals.{at, gen, verdict_at, tables}
 use Rattle.pcef_session.specs.declared.batch.Item.{Item}
 use Rattle.pcef_model.specs.Slots.{CountsFor}
 use Rattle.pcef_session.specs.Following.{HasItsSlots}

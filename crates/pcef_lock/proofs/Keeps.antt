@@ -1,6 +1,6 @@
 -- What always holds of the value behind the lock stays so as its session goes on.
-use Rattle.std.proofs.Common.{◌≡◌, ◌∙◌, ◌≤◌, ◌<◌, ◌+◌, ◌-◌, ℕ, suc, true, false, List, ◌++◌, length, refl, sym, ap, subst, arith, None, Ok, append-nil}
-use Rattle.std.specs.Prelude.{IfSome, slice_index}
+use Rattle.std.proofs.Common.{◌≡◌, ◌∙◌, ◌≤◌, ◌+◌, ◌-◌, ℕ, suc, List, ◌++◌, length, refl, sym, ap, subst, arith, Ok, append-nil}
+use Rattle.std.specs.Prelude.{IfSome}
 use Rattle.std.specs.Arc.{arc_value}
 use Rattle.std.specs.Option.{option_map, option_to_list}
 use Rattle.pcef_table.specs.Tables.{IsTable, TableValue}

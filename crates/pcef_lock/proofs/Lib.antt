@@ -2,6 +2,7 @@ pub mod Commanded
 pub mod Continued
 pub mod Counted
 pub mod FirstState
+pub mod Flows
 pub mod FlushAnswers
 pub mod Gathered
 pub mod Handing

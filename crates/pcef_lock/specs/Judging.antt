@@ -6,7 +6,8 @@ use Rattle.pcef_catalog.specs.declared.listing.Offer.{Offer}
 use Rattle.pcef_table.specs.Tables.{TableValue}
 use Rattle.pcef_table.specs.SessionSlots.{slots_counted}
 use Rattle.pcef_table.specs.Verdicts.{IsVerdict}
-use Rattle.pcef_publish.specs.Lists.{IsSeen}
+use Rattle.pcef_flow.specs.Flows.{Flows, Remembers}
+use Rattle.pcef_publish.specs.Lists.{Ends, IsSeen}
 use Rattle.pcef_model.specs.Setting.{Setting}
 use Rattle.pcef_session.specs.declared.batch.Item.{Item}
 
@@ -27,3 +28,7 @@ pub record IsTaken (p : Setting) (first worker seq : ℕ) (seen : List TableValu
   pub header_is : i.row.header ≡ header
   pub worker_is : i.row.worker ≡ worker
   pub seq_is : i.row.seq ≡ seq
+
+-- a cache remembers flows of the table that was seen last
+abbrev pub FollowsLast : Setting → List TableValue → Flows → Type 0
+FollowsLast p seen flows = (t : TableValue) → Ends seen t → Remembers p.catalog t.entries p.ue flows

@@ -1,9 +1,11 @@
 //! The seats of workers.
 
-ghost use Rattle.std.specs.Prelude.{◌≡◌};
-ghost use Rattle.pcef_lock.specs.Judging.{IsTaken};
+ghost use Rattle.std.specs.Prelude.{◌≡◌, ◌+◌, length};
+ghost use mathlib.Core.List.{IsPrefix};
+ghost use Rattle.pcef_lock.specs.Judging.{FollowsLast, IsTaken};
 
-use pcef_catalog::Detects;
+use pcef_catalog::{Detects, Offers};
+use pcef_flow::FlowCache;
 use pcef_index::Decision;
 use pcef_model::Row;
 use pcef_packet::{Addr, Header};
@@ -25,16 +27,24 @@ pub struct Seat<N: Naming> {
 }
 
 impl<N: Naming> Seat<N> {
-    /// Judges a packet by the table that is held: its row, with this number in the lane. The catalog and the address
-    /// are those of the session. Takes no lock, no memory, and doesn't wait.
-    pub fn judge<C: Detects>(&self, catalog: &C, seq: u64, header: &Header) -> Item
+    /// Judges a packet by the table that is held, or by what a cache of its flows remembers: its row, with this number in
+    /// the lane. The catalog and the address are those of the session. Takes no lock, no memory, and doesn't wait.
+    pub fn judge<C: Detects>(
+        &self,
+        catalog: &C,
+        flows: &mut FlowCache,
+        seq: u64,
+        header: &Header,
+    ) -> Item
         requires offers { C.offers catalog.now ≡ N.setting.catalog }
         requires ue { self.now.ue ≡ N.setting.ue }
-        ensures { IsTaken N.setting N.first self.now.worker seq
+        requires follows { FollowsLast N.setting self.now.subscriber flows.old }
+        ensures taken { IsTaken N.setting N.first self.now.worker seq
             self.now.subscriber header.now result }
+        ensures follows { FollowsLast N.setting self.now.subscriber flows.new }
     {
         let (generation, held) = self.subscriber.current();
-        let Decision { verdict, slots, .. } = held.judged(catalog, self.ue, header);
+        let Decision { verdict, slots, .. } = flows.judged(held, catalog, self.ue, header);
         Item {
             row: Row {
                 worker: self.worker,
@@ -45,5 +55,32 @@ impl<N: Naming> Seat<N> {
             },
             slots,
         }
+    }
+
+    /// Reads the published table once, with no lock, and returns the generation that is then held, which is never older
+    /// than before. The cache forgets its flows where the table is a newer one. Takes no memory.
+    pub fn refresh<C: Offers>(&mut self, catalog: &C, flows: &mut FlowCache) -> u32
+        requires offers { C.offers catalog.now ≡ N.setting.catalog }
+        requires follows { FollowsLast N.setting self.old.subscriber flows.old }
+        ensures grows { IsPrefix self.old.subscriber self.new.subscriber }
+        ensures number { result + 1 ≡ N.first + length self.new.subscriber }
+        ensures same { self.new ≡ record self.old { subscriber = self.new.subscriber } }
+        ensures follows { FollowsLast N.setting self.new.subscriber flows.new }
+    {
+        let (held, _) = self.subscriber.current();
+        let newest = self.subscriber.refresh();
+        if newest != held {
+            self.follow(catalog, flows);
+        }
+        newest
+    }
+
+    /// Has a cache forget its flows and follow the table that is held. Takes no lock, no memory, and doesn't wait.
+    pub fn follow<C: Offers>(&self, catalog: &C, flows: &mut FlowCache)
+        requires { C.offers catalog.now ≡ N.setting.catalog }
+        ensures { FollowsLast N.setting self.now.subscriber flows.new }
+    {
+        let (_, held) = self.subscriber.current();
+        flows.follow(catalog, held.table());
     }
 }

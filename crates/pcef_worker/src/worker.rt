@@ -6,6 +6,7 @@ ghost use Rattle.pcef_worker.specs.Working.{Takes};
 
 use crate::gate::Gate;
 use pcef_catalog::{Detects, Offers};
+use pcef_flow::FlowCache;
 use pcef_lock::{Departure, Finished, OwnRows, Seat, Shared};
 use pcef_model::AttachFault;
 use pcef_packet::Header;
@@ -16,12 +17,16 @@ use std::alloc::{AllocError, Global};
 use std::marker::Model;
 use std::sync::{Arc, Wait};
 
-/// A worker of a session: its seat, what is offered, the rows that wait, and its own list of those that it handed
-/// over, which is stored or only counted. Its shares hold what that list counts. It is used with the [`Shared`] that it
-/// was attached to: that is the caller's condition.
+/// How many flows a worker remembers.
+const MOST_FLOWS: usize = 256;
+
+/// A worker of a session: its seat, what is offered, the flows that it judged last, the rows that wait, and its own list
+/// of those that it handed over, which is stored or only counted. Its shares hold what that list counts. It is used with
+/// the [`Shared`] that it was attached to: that is the caller's condition.
 pub struct Worker<C: Offers + Drop, N: Naming, G: Gate + Drop> {
     pub(crate) seat: Seat<N>,
     pub(crate) catalog: Arc<C>,
+    pub(crate) flows: FlowCache,
     pub(crate) gate: G,
     pub(crate) waiting: Batch,
     pub(crate) rows: OwnRows,
@@ -33,6 +38,7 @@ impl<C: Offers + Drop, N: Naming, G: Gate + Drop> Drop for Worker<C, N, G> {
         let Worker {
             seat: _,
             catalog: _,
+            flows: _,
             gate: _,
             waiting: _,
             rows: _,
@@ -45,7 +51,7 @@ impl<C: Offers + Drop, N: Naming, G: Gate + Drop> Model for Worker<C, N, G> {
     ghost use Rattle.std.specs.Arc.{arc_value};
     ghost use Rattle.pcef_share.specs.Amounts.{zeros};
     ghost use Rattle.pcef_handover.specs.Counting.{with_items};
-    ghost use Rattle.pcef_lock.specs.Judging.{AllJudged};
+    ghost use Rattle.pcef_lock.specs.Judging.{AllJudged, FollowsLast};
     ghost use Rattle.pcef_worker.specs.Working.{WorkerModel};
 
     ghost Value = { WorkerModel };
@@ -61,7 +67,8 @@ impl<C: Offers + Drop, N: Naming, G: Gate + Drop> Model for Worker<C, N, G> {
     ghost invariant = { λ w. (w.seat.shares ≡ with_items zeros w.rows.items)
         × (w.seat.ue ≡ N.setting.ue)
         × (C.offers (arc_value w.catalog) ≡ N.setting.catalog)
-        × AllJudged N.setting N.first w.seat.subscriber w.waiting };
+        × AllJudged N.setting N.first w.seat.subscriber w.waiting
+        × FollowsLast N.setting w.seat.subscriber w.flows };
 }
 
 impl<C: Detects + Drop, N: Naming, G: Gate + Drop> Worker<C, N, G> {
@@ -114,6 +121,9 @@ impl<C: Detects + Drop, N: Naming, G: Gate + Drop> Worker<C, N, G> {
         let Ok(waiting) = Batch::new(alloc) else {
             return Err(AttachFault::NoMemory);
         };
+        let Ok(mut flows) = FlowCache::new(alloc, MOST_FLOWS) else {
+            return Err(AttachFault::NoMemory);
+        };
         let Ok(catalog) = shared.catalog() else {
             return Err(AttachFault::NoMemory);
         };
@@ -121,9 +131,11 @@ impl<C: Detects + Drop, N: Naming, G: Gate + Drop> Worker<C, N, G> {
             Ok(seat) => seat,
             Err(fault) => return Err(fault),
         };
+        seat.follow(&*catalog, &mut flows);
         Ok(Worker {
             seat,
             catalog,
+            flows,
             gate,
             waiting,
             rows,
@@ -178,19 +190,22 @@ impl<C: Detects + Drop, N: Naming, G: Gate + Drop> Worker<C, N, G> {
             return Err(BatchFull);
         }
         let seq = self.rows.len() + self.waiting.len() as u64;
-        let item = self.seat.judge(&*self.catalog, seq, header);
+        let item = self
+            .seat
+            .judge(&*self.catalog, &mut self.flows, seq, header);
         self.waiting.push(item);
         Ok(())
     }
 
     /// Reads the published table once, with no lock, and returns the generation that is then held, which is never older
-    /// than before. Where there is no reading or no copy, the table held stays. Takes no memory.
+    /// than before. Where there is no reading or no copy, the table held stays. Takes no memory. A newer table forgets
+    /// the flows.
     pub fn refresh(&mut self) -> u32
         ensures grows { IsPrefix self.old.seen self.new.seen }
         ensures number { result + 1 ≡ N.first + length self.new.seen }
         ensures same { self.new ≡ record self.old { seen = self.new.seen } }
     {
-        self.seat.subscriber.refresh()
+        self.seat.refresh(&*self.catalog, &mut self.flows)
     }
 
     /// Takes the newest table in one hold of the lock, and returns its generation. Where a further owner of the table
@@ -205,7 +220,9 @@ impl<C: Detects + Drop, N: Naming, G: Gate + Drop> Worker<C, N, G> {
         ensures same { self.new ≡ record self.old { seen = self.new.seen } }
         ensures refused { OnErr result (self.new ≡ self.old) }
     {
-        shared.meet(rt, &mut self.seat)
+        let newest = shared.meet(rt, &mut self.seat)?;
+        self.seat.follow(&*self.catalog, &mut self.flows);
+        Ok(newest)
     }
 
     /// What the worker hands in, which left in this way.
@@ -220,6 +237,7 @@ impl<C: Detects + Drop, N: Naming, G: Gate + Drop> Worker<C, N, G> {
         let Worker {
             seat,
             catalog: _,
+            flows: _,
             gate: _,
             waiting: _,
             rows,

@@ -8,11 +8,13 @@ ghost use Rattle.pcef_world.specs.Apart.{AbandonsApart, FinishesApart, FlushesAp
 ghost use Rattle.pcef_model.specs.Outcomes.{AttachStep};
 ghost use Rattle.pcef_world.specs.ApartLaws.{StaysBesideComing, StaysBesideFinishing, StaysBesideFlushes, StaysBesideLeaving, StaysBesideSteps, StaysBesideTheSame, StaysByRefreshing, StaysByTaking};
 ghost use Rattle.pcef_world.specs.Workers.{PlacesLast, counted};
+ghost use Rattle.pcef_flow.specs.Flows.{Remembers};
 
 use crate::answer::Abandoned;
 use crate::worker::{Taken, WorldWorker};
 use crate::world::{WorldState, newest};
 use pcef_catalog::Detects;
+use pcef_flow::FlowCache;
 use pcef_index::Indexed;
 use pcef_model::{AttachFault, FlushRefusal, Verdicts};
 use pcef_packet::{Addr, Header};
@@ -54,22 +56,27 @@ impl ApartWorker {
         self.worker.waiting.items()
     }
 
-    /// Judges a packet by the table that is held, lets its row wait, and returns how many wait then; or says that 32
-    /// wait, which changes nothing. Out of memory changes nothing either.
+    /// Judges a packet by the table that is held, or by what a cache of its flows remembers, lets its row wait, and
+    /// returns how many wait then; or says that 32 wait, which changes nothing of the worker. Out of memory changes
+    /// nothing of it either.
     pub fn take<C: Detects>(
         &mut self,
         catalog: &C,
+        flows: &mut FlowCache,
         header: &Header,
     ) -> Result<Result<Taken, BatchFull>, AllocError>
         requires table { IsTable (C.offers catalog.now) (held_apart self.old).entries }
+        requires remembers { Remembers (C.offers catalog.now) (held_apart self.old).entries self.old.ue flows.old }
         requires few { self.old.handed_over ≤ 4294967295 }
         ensures taken { IfOk result (λ answer. TakesApart (C.offers catalog.now) header.now self.old
             (counted answer) self.new) }
         ensures place { IfOk result (λ answer. IfOk answer (λ taken. PlacesLast (C.offers catalog.now)
             self.new.worker taken.place)) }
         ensures lacks { OnErr result (LacksApart self.old self.new) }
+        ensures remembers { Remembers (C.offers catalog.now) (held_apart self.new).entries self.new.ue flows.new }
     {
-        self.worker.take(catalog, self.ue, self.handed_over, header)
+        self.worker
+            .take_by_flows(catalog, flows, self.ue, self.handed_over, header)
     }
 }
 

@@ -4,6 +4,7 @@ mod bearer;
 mod catalog;
 mod filter;
 mod filter_v6;
+mod flow;
 mod index;
 mod ipv6;
 mod packet;

@@ -1,11 +1,13 @@
 //! Workers that judge by the table that they hold, and hand nothing over.
 
 ghost use Rattle.std.specs.Prelude.{◌≡◌};
+ghost use Rattle.pcef_lock.specs.Judging.{FollowsLast};
 ghost use Rattle.pcef_share.specs.Amounts.{zeros};
 
 use super::opening::packets_of;
 use super::working::Left;
 use pcef_catalog::Detects;
+use pcef_flow::FlowCache;
 use pcef_lock::{Departure, Finished, OwnRows, Seat, Shared};
 use pcef_packet::Header;
 use pcef_publish::{Board, Cell};
@@ -14,20 +16,29 @@ use pcef_share::{Naming, Shares};
 use std::alloc::Global;
 use std::sync::Wait;
 
+/// What a worker judges with, and the rows that wait.
+#[derive(Drop)]
+struct Alone<N: Naming> {
+    seat: Seat<N>,
+    flows: FlowCache,
+    batch: Batch,
+}
+
 /// Judges the packets of a batch; their rows then wait.
-fn judge_each<C: Detects, N: Naming>(
-    catalog: &C,
-    seat: &Seat<N>,
-    batch: &mut Batch,
-    packets: &[Header],
-)
+fn judge_each<C: Detects, N: Naming>(catalog: &C, alone: &mut Alone<N>, packets: &[Header])
     requires offers { C.offers catalog.now ≡ N.setting.catalog }
-    requires ue { seat.now.ue ≡ N.setting.ue }
+    requires ue { alone.old.seat.ue ≡ N.setting.ue }
+    requires follows { FollowsLast N.setting alone.old.seat.subscriber alone.old.flows }
+    ensures seat { alone.new.seat ≡ alone.old.seat }
+    ensures follows { FollowsLast N.setting alone.new.seat.subscriber alone.new.flows }
 {
     for packet in packets {
-        let waiting = batch.len();
+        let waiting = alone.batch.len();
         if waiting < MAX_WAITING {
-            batch.push(seat.judge(catalog, waiting as u64, packet));
+            let row = alone
+                .seat
+                .judge(catalog, &mut alone.flows, waiting as u64, packet);
+            alone.batch.push(row);
         }
     }
 }
@@ -44,24 +55,24 @@ fn rows_if_counted(batch: &Batch) -> u64 {
 /// judged.
 fn judge_batches<C: Detects, N: Naming>(
     catalog: &C,
-    seat: &mut Seat<N>,
-    batch: &mut Batch,
+    alone: &mut Alone<N>,
     packets: &[Header],
     batches: u32,
     refreshes: bool,
 ) -> u64
     requires offers { C.offers catalog.now ≡ N.setting.catalog }
-    requires ue { seat.old.ue ≡ N.setting.ue }
-    ensures shares { seat.new.shares ≡ seat.old.shares }
+    requires ue { alone.old.seat.ue ≡ N.setting.ue }
+    requires follows { FollowsLast N.setting alone.old.seat.subscriber alone.old.flows }
+    ensures shares { alone.new.seat.shares ≡ alone.old.seat.shares }
 {
     let mut judged: u64 = 0;
     for number in 0..batches {
         if refreshes {
-            seat.subscriber.refresh();
+            alone.seat.refresh(catalog, &mut alone.flows);
         }
-        judge_each(catalog, seat, batch, packets_of(packets, number));
-        judged = judged.saturating_add(rows_if_counted(batch));
-        batch.clear();
+        judge_each(catalog, alone, packets_of(packets, number));
+        judged = judged.saturating_add(rows_if_counted(&alone.batch));
+        alone.batch.clear();
     }
     judged
 }
@@ -83,15 +94,21 @@ pub fn judged_alone<C: Detects + Drop, N: Naming, W: Board<Cell<N>> + Drop, R: W
     refreshes: bool,
 ) -> Option<Left<N>> {
     let catalog = shared.catalog().ok()?;
-    let mut batch = Batch::new(alloc).ok()?;
-    let Ok(mut seat) = shared.attach(rt) else {
+    let batch = Batch::new(alloc).ok()?;
+    let mut flows = FlowCache::new(alloc, 256).ok()?;
+    let Ok(seat) = shared.attach(rt) else {
         return None;
     };
-    let judged = judge_batches(
-        &*catalog, &mut seat, &mut batch, packets, batches, refreshes,
-    );
-    batch.clear();
-    let departure = shared.abandon(rt, &seat, &batch);
+    seat.follow(&*catalog, &mut flows);
+    let mut alone = Alone { seat, flows, batch };
+    let judged = judge_batches(&*catalog, &mut alone, packets, batches, refreshes);
+    alone.batch.clear();
+    let departure = shared.abandon(rt, &alone.seat, &alone.batch);
+    let Alone {
+        seat,
+        flows: _,
+        batch: _,
+    } = alone;
     let Seat {
         worker: _,
         shares,

@@ -61,7 +61,7 @@ const LOCAL: Net = Net {
 };
 
 /// A shape of one test.
-fn one(test: Test) -> Shape
+pub(crate) fn one(test: Test) -> Shape
     ensures { result ≡ (test ∷ []) ∷ [] }
 {
     let mut tests = ArrayVec::new();
@@ -71,7 +71,7 @@ fn one(test: Test) -> Shape
     Shape::new(alternatives)
 }
 
-fn named(name: RuleName) -> Properties {
+pub(crate) fn named(name: RuleName) -> Properties {
     Properties {
         name,
         precedence: 50,

@@ -85,14 +85,14 @@ fn entry_of_variant(alloc: Global, variant: Variant<'_>) -> Option<TableEntry>
 
 /// A table without rules.
 #[tactic(auto, using(pcef_table::proofs::Ordered::empty_is_table))]
-fn empty_table<C: Offers>(alloc: Global, _catalog: &C) -> Option<Table>
+pub(crate) fn empty_table<C: Offers>(alloc: Global, _catalog: &C) -> Option<Table>
     ensures { IfSome result (λ t. IsTable (C.offers _catalog.now) t.entries) }
 {
     Table::empty(alloc, 0).ok()
 }
 
 /// The next generation with one more entry.
-fn with_entry<C: Offers>(catalog: &C, table: &Table, entry: TableEntry) -> Option<Table>
+pub(crate) fn with_entry<C: Offers>(catalog: &C, table: &Table, entry: TableEntry) -> Option<Table>
     requires table { IsTable (C.offers catalog.now) table.now.entries }
     requires known { IsKnown (C.offers catalog.now) entry.source }
     ensures { IfSome result (λ t. IsTable (C.offers catalog.now) t.entries) }

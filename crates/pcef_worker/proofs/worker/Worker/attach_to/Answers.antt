@@ -1,4 +1,4 @@
-use Rattle.std.proofs.Common.{◌≡◌, ◌∙◌, List, [], All, subst, sym}
+use Rattle.std.proofs.Common.{◌∙◌, List, All, subst, sym}
 use Rattle.std.proofs.lemmas.List.Elements.{All-nil}
 use Rattle.pcef_session.specs.declared.batch.Item.{Item}
 use Rattle.pcef_lock.specs.Judging.{IsJudged}
@@ -12,4 +12,5 @@ invariant_of-result g c =
       c.in-Ok-attach.ensures.seat.1,
       c.in-Ok-catalog.ensures,
       subst (λ (xs : List Item). All J xs) (sym c.in-Ok.ensures) (All-nil J),
+      c.follow.ensures,
     )

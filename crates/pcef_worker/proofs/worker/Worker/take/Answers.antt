@@ -1,4 +1,4 @@
-use Rattle.std.proofs.Common.{rules, ℕ, ◌+◌, length, arith, ◌≡◌, ◌++◌, ◌∷◌, [], List, All, refl, subst, sym, ap}
+use Rattle.std.proofs.Common.{rules, ℕ, ◌+◌, length, arith, ◌≡◌, List, All, refl, subst, sym}
 use Rattle.std.proofs.lemmas.List.Elements.{All-push}
 use Rattle.pcef_session.specs.declared.batch.Item.{Item}
 use Rattle.pcef_lock.specs.Judging.{IsJudged, IsTaken}
@@ -10,7 +10,8 @@ invariant_of-self g c =
       c.self.invariant.0,
       c.self.invariant.1,
       c.self.invariant.2,
-      subst (λ (xs : List Item). All J xs) (sym c.push.ensures) (All-push J c.self.inside.waiting c.judge-item.result c.self.invariant.3 c.judge-item.ensures.judged),
+      subst (λ (xs : List Item). All J xs) (sym c.push.ensures) (All-push J c.self.inside.waiting c.judge-item.result c.self.invariant.3 c.judge-item.ensures.taken.judged),
+      c.judge-item.ensures.follows,
     )
 
 pub returns-clause-takes : goal.returns-clause-takes
@@ -20,6 +21,6 @@ returns-clause-takes g c =
     let seq : c.len-2.result + c.len-3.result ≡ length c.self.inside.rows.items + length c.self.inside.waiting = omega (arith, rows, waiting) in
     rw (← c.self.view_is) (record {
       item = c.judge-item.result;
-      taken = subst (λ (n : ℕ). IsTaken g.N.Naming.setting g.N.Naming.first c.self.inside.seat.worker n c.self.inside.seat.subscriber c.args.header.now c.judge-item.result) seq c.judge-item.ensures;
+      taken = subst (λ (n : ℕ). IsTaken g.N.Naming.setting g.N.Naming.first c.self.inside.seat.worker n c.self.inside.seat.subscriber c.args.header.now c.judge-item.result) seq c.judge-item.ensures.taken;
       after = rw c.push.ensures refl;
     })
