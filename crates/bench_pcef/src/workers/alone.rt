@@ -24,6 +24,24 @@ struct Alone<N: Naming> {
     batch: Batch,
 }
 
+/// Judges a packet, whose row then waits where there is room.
+fn judge_one<C: Detects, N: Naming>(catalog: &C, alone: &mut Alone<N>, packet: &Header)
+    requires offers { C.offers catalog.now ≡ N.setting.catalog }
+    requires ue { alone.old.seat.ue ≡ N.setting.ue }
+    requires follows { FollowsLast N.setting alone.old.seat.subscriber alone.old.flows }
+    ensures seat { alone.new.seat ≡ alone.old.seat }
+    ensures follows { FollowsLast N.setting alone.new.seat.subscriber alone.new.flows }
+{
+    let waiting = alone.batch.len();
+    if waiting >= MAX_WAITING {
+        return;
+    }
+    let row = alone
+        .seat
+        .judge(catalog, &mut alone.flows, waiting as u64, packet);
+    alone.batch.push(row);
+}
+
 /// Judges the packets of a batch; their rows then wait.
 fn judge_each<C: Detects, N: Naming>(catalog: &C, alone: &mut Alone<N>, packets: &[Header])
     requires offers { C.offers catalog.now ≡ N.setting.catalog }
@@ -33,13 +51,20 @@ fn judge_each<C: Detects, N: Naming>(catalog: &C, alone: &mut Alone<N>, packets:
     ensures follows { FollowsLast N.setting alone.new.seat.subscriber alone.new.flows }
 {
     for packet in packets {
-        let waiting = alone.batch.len();
-        if waiting < MAX_WAITING {
-            let row = alone
-                .seat
-                .judge(catalog, &mut alone.flows, waiting as u64, packet);
-            alone.batch.push(row);
-        }
+        judge_one(catalog, alone, packet);
+    }
+}
+
+/// Takes the newest table where it refreshes.
+fn refresh_if<C: Detects, N: Naming>(catalog: &C, alone: &mut Alone<N>, refreshes: bool)
+    requires offers { C.offers catalog.now ≡ N.setting.catalog }
+    requires follows { FollowsLast N.setting alone.old.seat.subscriber alone.old.flows }
+    ensures ue { alone.new.seat.ue ≡ alone.old.seat.ue }
+    ensures shares { alone.new.seat.shares ≡ alone.old.seat.shares }
+    ensures follows { FollowsLast N.setting alone.new.seat.subscriber alone.new.flows }
+{
+    if refreshes {
+        alone.seat.refresh(catalog, &mut alone.flows);
     }
 }
 
@@ -67,9 +92,7 @@ fn judge_batches<C: Detects, N: Naming>(
 {
     let mut judged: u64 = 0;
     for number in 0..batches {
-        if refreshes {
-            alone.seat.refresh(catalog, &mut alone.flows);
-        }
+        refresh_if(catalog, alone, refreshes);
         judge_each(catalog, alone, packets_of(packets, number));
         judged = judged.saturating_add(rows_if_counted(&alone.batch));
         alone.batch.clear();
