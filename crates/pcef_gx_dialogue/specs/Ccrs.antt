@@ -1,7 +1,7 @@
 -- The CCRs of a session (TS 29.212, clauses 4.5.1, 4.5.3 and 4.5.7; RFC 8506, clause 8.2).
-use Rattle.std.specs.Prelude.{ℕ, ◌≡◌, ◌+◌, ◌==◌, ◌&&◌, Bool, true, false, bit_or, List, Option, Some, None, is_some, option_map, slice_index, slice_set, if◌then◌else◌}
+use Rattle.std.specs.Prelude.{ℕ, ◌≡◌, ◌<◌, ◌≤◌, ◌⊎◌, ◌+◌, ◌^◌, ◌==◌, ◌&&◌, Bool, true, false, bit_or, List, Option, Some, None, is_some, option_map, slice_index, slice_set, if◌then◌else◌}
 use Rattle.pcef_gx_dialogue.specs.declared.ccr.SendRefusal.{SendRefusal}
-use Rattle.pcef_gx_dialogue.specs.declared.ccr.SendRefusal.TheVariants.{IsOut}
+use Rattle.pcef_gx_dialogue.specs.declared.ccr.SendRefusal.TheVariants.{IsOut, NoMemory, NoNumber}
 use Rattle.pcef_gx_messages.specs.Identities.{Speaker}
 use Rattle.pcef_gx_messages.specs.Sent.{kind_number, request_octets}
 use Rattle.pcef_gx_messages.specs.declared.requesting.RequestKind.{RequestKind}
@@ -81,7 +81,15 @@ out_anew o = record o { past = 0 }
 abbrev pub anew : Ccrs → Ccrs
 anew c = record c { told = 0; out = option_map out_anew c.out }
 
--- why none goes out: one is out
-abbrev pub RefusesSend : SendRefusal → Ccrs → Type 0
-RefusesSend IsOut c = is_some c.out ≡ true
-RefusesSend _ c = c.out ≡ None
+-- a number is left for one that tells so many reports, and one for the reports that are told
+abbrev pub HasNumber : ℕ → Ccrs → Type 0
+HasNumber count c = (c.next + 1 < 2 ^ 32) × (c.told + count < 2 ^ 64)
+
+abbrev pub LacksNumber : ℕ → Ccrs → Type 0
+LacksNumber count c = (2 ^ 32 ≤ c.next + 1) ⊎ (2 ^ 64 ≤ c.told + count)
+
+-- why none goes out: one is out; else it has no number; else there is no memory for it
+abbrev pub RefusesSend : SendRefusal → ℕ → Ccrs → Type 0
+RefusesSend IsOut count c = is_some c.out ≡ true
+RefusesSend NoNumber count c = (c.out ≡ None) × LacksNumber count c
+RefusesSend NoMemory count c = (c.out ≡ None) × HasNumber count c

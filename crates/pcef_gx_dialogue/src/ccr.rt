@@ -117,7 +117,7 @@ impl Ccrs {
     ) -> Result<(), SendRefusal>
         ensures sent { OnOk result (self.new ≡ sent identity.now mark kind update.now self.old) }
         ensures alone { OnOk result (self.old.out ≡ None) }
-        ensures refusal { IfErr result (λ e. RefusesSend e self.old) }
+        ensures refusal { IfErr result (λ e. RefusesSend e update.now.count self.old) }
         ensures unchanged { OnErr result (self.new ≡ self.old) }
     {
         if self.out.is_some() {
