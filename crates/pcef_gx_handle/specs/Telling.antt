@@ -1,7 +1,7 @@
 -- Which CCR is due, and what it tells (TS 29.212, clauses 4.5.1, 4.5.3, 4.5.7 and 4.5.16).
 use Rattle.std.specs.Prelude.{ℕ, ◌≡◌, ◌<◌, ◌≤◌, ◌⊎◌, ◌+◌, ◌++◌, ◌==◌, ◌&&◌, Bool, true, false, is_some, nat_lt, List, [], length, Option, Some, None, Result, Ok, Err, if◌then◌else◌}
 use Rattle.pcef_diameter.specs.Spellings.{avps_octets}
-use Rattle.pcef_gx_dialogue.specs.Ccrs.{given_up, sent_again, sent_with}
+use Rattle.pcef_gx_dialogue.specs.Ccrs.{LacksNumber, given_up, sent_again, sent_with}
 use Rattle.pcef_gx_messages.specs.declared.requesting.RequestKind.{RequestKind}
 use Rattle.pcef_gx_messages.specs.declared.requesting.RequestKind.TheVariants as kind
 use Rattle.pcef_gx_messages.specs.declared.requesting.RequestMark.{RequestMark}
@@ -26,10 +26,10 @@ GoesOut mark of avps count d e =
       due_out = length d.due;
     }
 
--- It goes out, or there is no number or no memory for it, and then nothing changes.
+-- It goes out, or it has no number, or there is no memory for it, and then nothing changes.
 unfoldable pub Sends : RequestMark → RequestKind → List ℕ → ℕ → Dialoguing → Result (Option RequestKind) NextRefusal → Dialoguing → Type 0
 Sends mark of avps count d (Ok (Some sent)) e = (sent ≡ of) × GoesOut mark of avps count d e
-Sends mark of avps count d (Err refusal.NoNumber) e = e ≡ d
+Sends mark of avps count d (Err refusal.NoNumber) e = LacksNumber count d.ccrs × (e ≡ d)
 Sends mark of avps count d (Err refusal.NoMemory) e = e ≡ d
 Sends mark of avps count d other e = ⊥
 
