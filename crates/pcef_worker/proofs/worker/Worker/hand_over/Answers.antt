@@ -17,8 +17,7 @@ invariant_of-self-2 g c =
     let handed : c.flush.new.seat.shares ≡ with_items c.self.inside.seat.shares c.self.inside.waiting = search rules in
     let shares : c.flush.new.seat.shares ≡ with_items zeros c.keep_all.new.rows.items =
     handed ∙ ap (λ t. with_items t c.self.inside.waiting) c.self.invariant.0 ∙ sym (with_items_append zeros c.self.inside.rows.items c.self.inside.waiting)
-    ∙ sym (ap (with_items zeros) (c.keep_all.ensures.items ∙ ap (λ (xs : List Item). xs ++ c.items.result.now) c.reserve.ensures.items ∙ ap (λ (xs : List Item). c.self.inside.rows.items ++ xs) c.items.ensures.items)) in
-    (
+    ∙ sym (ap (with_items zeros) (c.keep_all.ensures.items ∙ ap (λ (xs : List Item). xs ++ c.items.result.now) c.reserve.ensures.items ∙ ap (λ (xs : List Item). c.self.inside.rows.items ++ xs) c.items.ensures.items)) in (
       shares,
       c.flush.ensures.seat.2 ∙ c.self.invariant.1,
       c.self.invariant.2,
