@@ -77,7 +77,7 @@ fn all_ignore_volume<C: Offers>(catalog: &C, entries: &[TableEntry]) -> bool
 }
 
 impl FlowCache {
-    /// A cache with places for this many flows, a power of two, of some 64 octets each. It remembers none, and is used
+    /// A cache with places for this many flows, a power of two, of some 80 octets each. It remembers none, and is used
     /// once it follows a table. Fails when out of memory.
     pub fn new(alloc: Global, places: usize) -> Result<FlowCache, AllocError>
         ensures { IfOk result (λ c. (offers : List Offer) (entries : List TableEntry) (ue : Addr)
