@@ -7,9 +7,9 @@ use Rattle.indexmap.specs.IndexMap.{insert_entry, shift_remove_entry}
 use Rattle.pcef_model.specs.Setting.{same_name}
 use Rattle.pcef_model.proofs.Sameness.{same_name_is, same_name_not, same_name_turned}
 use Rattle.pcef_table.specs.declared.entry.Source.{Source}
-use Rattle.pcef_active.specs.ByName.{Kept, is_kept_as, put_kept, without_kept}
+use Rattle.pcef_active.specs.ByName.{NamedSource, is_kept_as, put_kept, without_kept}
 
-pub found_is : (name : List ℕ) (rules : List Kept) → is_some (lookup (same_name name) rules) ≡ list_any (is_kept_as name) rules
+pub found_is : (name : List ℕ) (rules : List NamedSource) → is_some (lookup (same_name name) rules) ≡ list_any (is_kept_as name) rules
 found_is name [] = refl
 found_is name (e ∷ rules) =
     elim (cases_Bool (same_name name e.0)) [
@@ -17,7 +17,7 @@ found_is name (e ∷ rules) =
       | inr isnt ↦ let other : is_kept_as name e ≡ false = same_name_not name e.0 isnt in rw (isnt, other) (found_is name rules)
     ]
 
-pub inserted_is : (name : List ℕ) (source : Source) (rules : List Kept) → insert_entry same_name rules name source ≡ put_kept (name, source) rules
+pub inserted_is : (name : List ℕ) (source : Source) (rules : List NamedSource) → insert_entry same_name rules name source ≡ put_kept (name, source) rules
 inserted_is name source [] = refl
 inserted_is name source (e ∷ rules) =
     elim (cases_Bool (same_name name e.0)) [
@@ -30,14 +30,14 @@ inserted_is name source (e ∷ rules) =
     ]
 
 -- where no rule has the name, all stay
-all_stay : (name : List ℕ) (rules : List Kept) → AllByRecursion (λ other. same_name name other ≡ false) (keys_of rules) → without_kept name rules ≡ rules
+all_stay : (name : List ℕ) (rules : List NamedSource) → AllByRecursion (λ other. same_name name other ≡ false) (keys_of rules) → without_kept name rules ≡ rules
 all_stay name [] none = refl
 all_stay name (e ∷ rules) none =
     let other : is_kept_as name e ≡ false = same_name_not name e.0 none.0 in
     rw other (ap (λ rest. e ∷ rest) (all_stay name rules none.1))
 
 -- the map removes the first one of a name, and no other has it
-pub removed_is : (name : List ℕ) (rules : List Kept) → IsDistinct same_name (keys_of rules) → shift_remove_entry (same_name name) rules ≡ without_kept name rules
+pub removed_is : (name : List ℕ) (rules : List NamedSource) → IsDistinct same_name (keys_of rules) → shift_remove_entry (same_name name) rules ≡ without_kept name rules
 unfolding IsDistinct
 removed_is name [] once = refl
 removed_is name (e ∷ rules) once =

@@ -3,7 +3,7 @@
 ghost use Rattle.std.specs.Prelude.{◌≡◌, ◌≤◌, ◌<◌, ◌+◌, [], filter, length, slice_get, IsOk, OnOk};
 ghost use Rattle.std.specs.List.{list_any};
 ghost use Rattle.std.specs.Option.{option_map};
-ghost use Rattle.pcef_bearer.specs.Bindings.{is_named};
+ghost use Rattle.pcef_bearer.specs.Bindings.{is_bound_as};
 ghost use Rattle.pcef_active.specs.ByName.{is_kept_as, is_still_bound, put_kept, without_kept};
 
 use indexmap::IndexMap;
@@ -104,7 +104,7 @@ impl ActiveRules {
     {
         self.rules.retain(
             |name: &RuleName, source: &mut Source| -> bool
-                ensures { (result ≡ list_any (is_named name.now) bearers.entry.now.bound)
+                ensures { (result ≡ list_any (is_bound_as name.now) bearers.entry.now.bound)
                     × (source.new ≡ source.old) }
             { bearers.is_bound(name) },
         );

@@ -32,13 +32,13 @@ inner_data fault field code =
     (member (codes "field") (string (field_text field))
     (member (codes "name") (string (fault_name fault)) no_members))))
 
-abbrev pub data_of : LineFault → Option Field → Option ℕ → Data
-data_of fault None code = line_data fault
-data_of fault (Some field) None = field_data fault field
-data_of fault (Some field) (Some code) = inner_data fault field code
+abbrev pub line_fault_data : LineFault → Option Field → Option ℕ → Data
+line_fault_data fault None code = line_data fault
+line_fault_data fault (Some field) None = field_data fault field
+line_fault_data fault (Some field) (Some code) = inner_data fault field code
 
 abbrev pub fault_data : LineFault → Data
-fault_data fault = data_of fault (fault_field fault) (fault_code fault)
+fault_data fault = line_fault_data fault (fault_field fault) (fault_code fault)
 
 unfoldable pub fault_text : LineFault → List ℕ
 fault_text fault = compact_text (fault_data fault)

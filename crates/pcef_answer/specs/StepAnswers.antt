@@ -32,8 +32,8 @@ abbrev pub unchanged_last : Bool → Members
 unchanged_last true = member (codes "unchanged") (boolean true) no_members
 unchanged_last false = no_members
 
-abbrev pub members_of : Data → Option BearerId → ℕ → Bool → Members
-members_of report_list bearer generation unchanged =
+abbrev pub step_members : Data → Option BearerId → ℕ → Bool → Members
+step_members report_list bearer generation unchanged =
     bearer_before bearer
     (member (codes "generation") (count generation)
     (member (codes "ok") (boolean true)
@@ -41,7 +41,7 @@ members_of report_list bearer generation unchanged =
 
 abbrev pub accepted_data : Journal → Accepted → Data
 accepted_data journal accepted =
-    object (members_of (reports_data (reports_between journal accepted.first_report accepted.past_last_report)) accepted.bearer accepted.generation accepted.unchanged)
+    object (step_members (reports_data (reports_between journal accepted.first_report accepted.past_last_report)) accepted.bearer accepted.generation accepted.unchanged)
 
 unfoldable pub command_text : Journal → Result Accepted Refusal → List ℕ
 command_text journal (Ok accepted) = compact_text (accepted_data journal accepted)
@@ -127,12 +127,12 @@ abandoned_data abandoned =
 
 -- ---- steps
 -- the answer to a step, by the journal and the number of the newest generation after it
-abbrev pub step_text : Journal → ℕ → Reply → List ℕ
-step_text journal generation (command_reply answer) = command_text journal answer
-step_text journal generation (attach_reply answer) = attached_text generation answer
-step_text journal generation (refresh_reply held) = compact_text (refreshed_data held)
-step_text journal generation (take_reply answer) = taken_text answer
-step_text journal generation (flush_reply answer) = flushed_text journal answer
-step_text journal generation (finish_reply answer) = finished_text journal answer
-step_text journal generation (abandon_reply abandoned) = compact_text (abandoned_data abandoned)
-step_text journal generation no_worker = no_worker_text
+abbrev pub reply_text : Journal → ℕ → Reply → List ℕ
+reply_text journal generation (command_reply answer) = command_text journal answer
+reply_text journal generation (attach_reply answer) = attached_text generation answer
+reply_text journal generation (refresh_reply held) = compact_text (refreshed_data held)
+reply_text journal generation (take_reply answer) = taken_text answer
+reply_text journal generation (flush_reply answer) = flushed_text journal answer
+reply_text journal generation (finish_reply answer) = finished_text journal answer
+reply_text journal generation (abandon_reply abandoned) = compact_text (abandoned_data abandoned)
+reply_text journal generation no_worker = no_worker_text

@@ -3,7 +3,7 @@
 ghost use Rattle.std.specs.Prelude.{◌≡◌, ◌≤◌, IfOk, string_bytes};
 ghost use Rattle.pcef_session.specs.Answers.{finished_of, flushed_of};
 ghost use Rattle.pcef_world.specs.Steps.{NamesKept, reply_of};
-ghost use Rattle.pcef_answer.specs.StepAnswers.{command_text, attached_text, taken_text, finished_text, flushed_text, step_text};
+ghost use Rattle.pcef_answer.specs.StepAnswers.{command_text, attached_text, taken_text, finished_text, flushed_text, reply_text};
 
 use crate::refusal::{
     attach_fault_answer, flush_refusal_answer, no_worker_answer, refusal_answer, refused_answer,
@@ -25,7 +25,7 @@ pub fn step_answer(
 ) -> Result<String, AllocError>
     requires { NamesKept journal.now.forgotten (reply_of answer.now) }
     ensures { IfOk result (λ text. string_bytes text
-        ≡ step_text journal.now.entries generation (reply_of answer.now)) }
+        ≡ reply_text journal.now.entries generation (reply_of answer.now)) }
 {
     match answer {
         StepAnswer::Command(answer) => command_answer(alloc, journal, answer),

@@ -14,8 +14,8 @@ use Rattle.pcef_model.specs.ActiveRules.{Active, is_named, put, without}
 use Rattle.pcef_model.specs.Generations.{Generation, free_id, has_bearer, id_after, kept, next, rules_after, stays}
 use Rattle.pcef_model.proofs.Sameness.{same_qos_is, same_qos_self}
 use Rattle.pcef_bearer.specs.declared.bearers.Bound.{Bound}
-use Rattle.pcef_bearer.specs.Bindings.{bound_at, is_named as bound_named, total_down as bound_down, total_up as bound_up}
-use Rattle.pcef_bearer.specs.BindingSteps.{IsBinding, id_excluding, id_or_new, with_rules, finds_no_bearer as bound_finds_none, put as bound_put, refusals as bound_refusals, without as bound_without}
+use Rattle.pcef_bearer.specs.Bindings.{bound_at, is_bound_as as bound_named, bound_down, bound_up}
+use Rattle.pcef_bearer.specs.BindingSteps.{IsBinding, id_excluding, id_or_new, with_rules, finds_no_id as bound_finds_none, with_bound as bound_put, binding_refusals as bound_refusals, without_bound as bound_without}
 use Rattle.pcef_model.specs.Bearers.{other_ids, sum_up, sum_down, default_id, has_pair, least_free as free}
 use Rattle.pcef_model.specs.Refusals.{bindings, finds_no_bearer, first_of, total_down, total_up}
 use Rattle.pcef_bearer.specs.Standing.{binding_of, bound_of}

@@ -12,8 +12,8 @@ use Rattle.pcef_model.specs.Setting.{same_qos}
 use Rattle.pcef_lists.proofs.Tests.{contrary}
 use Rattle.pcef_model.proofs.Sameness.{same_qos_is, same_qos_of, same_qos_self, same_qos_sym}
 use Rattle.pcef_bearer.specs.declared.bearers.Bound.{Bound}
-use Rattle.pcef_bearer.specs.Bindings.{Agree, is_named}
-use Rattle.pcef_bearer.specs.BindingSteps.{HasItsId, finds_no_bearer, id_excluding, id_or_new, without}
+use Rattle.pcef_bearer.specs.Bindings.{Agree, is_bound_as}
+use Rattle.pcef_bearer.specs.BindingSteps.{HasItsId, finds_no_id, id_excluding, id_or_new, without_bound}
 use Rattle.pcef_model.specs.Bearers.{default_id, has_pair, least_free, other_ids}
 use Rattle.pcef_model.proofs.Names.{any_at}
 use Rattle.pcef_lists.proofs.Found.{found_is, found_passes}
@@ -76,19 +76,19 @@ default_agrees default q b is has =
 
 module _ (default : Qos) (name : List ℕ) (bound : List Bound) (q : Qos) (id : ℕ)
     (ids : All (HasItsId default) bound) (pairs : AllPairs Agree bound) where
-  by_default : same_qos q default ≡ true → Some default_id ≡ Some id → IsIdOf default (without name bound) q id
+  by_default : same_qos q default ≡ true → Some default_id ≡ Some id → IsIdOf default (without_bound name bound) q id
   by_default is found =
       let five : 5 ≡ id = cc in
-      subst (λ (n : ℕ). IsIdOf default (without name bound) q n) five (record {
-        agrees = All-weaker (HasItsId default) (AgreesWith q 5) (λ b has. default_agrees default q b is has) (without name bound)
-            (All-filter (λ (b : Bound). not (is_named name b)) (HasItsId default) bound ids);
+      subst (λ (n : ℕ). IsIdOf default (without_bound name bound) q n) five (record {
+        agrees = All-weaker (HasItsId default) (AgreesWith q 5) (λ b has. default_agrees default q b is has) (without_bound name bound)
+            (All-filter (λ (b : Bound). not (is_bound_as name b)) (HasItsId default) bound ids);
         of_default = λ _. refl;
         of_other = λ isnt. contrary (same_qos q default) is isnt;
       })
 
   -- of a pair that has a bearer
   by_old : same_qos q default ≡ false → (c : Bound) → find (λ (b : Bound). same_qos q b.qos) bound ≡ Some c →
-      IsIdOf default (without name bound) q c.bearer.0
+      IsIdOf default (without_bound name bound) q c.bearer.0
   by_old isnt c found =
       let is : q ≡ c.qos = same_qos_is q c.qos (found_passes (λ (b : Bound). same_qos q b.qos) bound c found) in
       let agree : All (Agree c) bound =
@@ -96,44 +96,44 @@ module _ (default : Qos) (name : List ℕ) (bound : List Bound) (q : Qos) (id : 
       let has : HasItsId default c = found_is (HasItsId default) (λ (b : Bound). same_qos q b.qos) bound c ids found in
       record {
         agrees = All-weaker (Agree c) (AgreesWith q c.bearer.0)
-            (λ b same. subst (λ (p : Qos). same_qos p b.qos ≡ (c.bearer.0 == b.bearer.0)) (sym is) same) (without name bound)
-            (All-filter (λ (b : Bound). not (is_named name b)) (Agree c) bound agree);
+            (λ b same. subst (λ (p : Qos). same_qos p b.qos ≡ (c.bearer.0 == b.bearer.0)) (sym is) same) (without_bound name bound)
+            (All-filter (λ (b : Bound). not (is_bound_as name b)) (Agree c) bound agree);
         of_default = λ is. contrary (same_qos q default) is isnt;
         of_other = λ off. has.1 (subst (λ (p : Qos). same_qos p default ≡ false) is off);
       }
 
   -- of a new pair
-  by_new : same_qos q default ≡ false → find (λ (b : Bound). same_qos q b.qos) bound ≡ None → least_free (λ (b : Bound). b.bearer.0) (without name bound) ≡ Some id →
-      IsIdOf default (without name bound) q id
+  by_new : same_qos q default ≡ false → find (λ (b : Bound). same_qos q b.qos) bound ≡ None → least_free (λ (b : Bound). b.bearer.0) (without_bound name bound) ≡ Some id →
+      IsIdOf default (without_bound name bound) q id
   by_new isnt none found =
-      let others : All (λ (b : Bound). same_qos q b.qos ≡ false) (without name bound) =
-      All-filter (λ (b : Bound). not (is_named name b)) (λ (b : Bound). same_qos q b.qos ≡ false) bound
+      let others : All (λ (b : Bound). same_qos q b.qos ≡ false) (without_bound name bound) =
+      All-filter (λ (b : Bound). not (is_bound_as name b)) (λ (b : Bound). same_qos q b.qos ≡ false) bound
       (none_passes (λ (b : Bound). same_qos q b.qos) bound none) in
-      let passes : not (list_any (λ (b : Bound). id == b.bearer.0) (without name bound)) ≡ true =
-      found_passes (λ (i : ℕ). not (list_any (λ (b : Bound). i == b.bearer.0) (without name bound))) other_ids id found in
-      let unused : list_any (λ (b : Bound). id == b.bearer.0) (without name bound) ≡ false =
-      false_from_ne_true (list_any (λ (b : Bound). id == b.bearer.0) (without name bound))
-      (λ there. contrary (not (list_any (λ (b : Bound). id == b.bearer.0) (without name bound))) passes (ap not there)) in
+      let passes : not (list_any (λ (b : Bound). id == b.bearer.0) (without_bound name bound)) ≡ true =
+      found_passes (λ (i : ℕ). not (list_any (λ (b : Bound). i == b.bearer.0) (without_bound name bound))) other_ids id found in
+      let unused : list_any (λ (b : Bound). id == b.bearer.0) (without_bound name bound) ≡ false =
+      false_from_ne_true (list_any (λ (b : Bound). id == b.bearer.0) (without_bound name bound))
+      (λ there. contrary (not (list_any (λ (b : Bound). id == b.bearer.0) (without_bound name bound))) passes (ap not there)) in
       record {
         agrees = λ k d within.
-            others k d within ∙ sym (any_at (λ (b : Bound). id == b.bearer.0) (without name bound) unused k d within);
+            others k d within ∙ sym (any_at (λ (b : Bound). id == b.bearer.0) (without_bound name bound) unused k d within);
         of_default = λ is. contrary (same_qos q default) is isnt;
         of_other = λ _.
             found_is (λ (i : ℕ). (6 ≤ i) × (i ≤ 15))
-            (λ (i : ℕ). not (list_any (λ (b : Bound). i == b.bearer.0) (without name bound))) other_ids id in_range found;
+            (λ (i : ℕ). not (list_any (λ (b : Bound). i == b.bearer.0) (without_bound name bound))) other_ids id in_range found;
       }
     where
       in_range : All (λ (i : ℕ). (6 ≤ i) × (i ≤ 15)) other_ids
       in_range = All-from_recursion (λ (i : ℕ). (6 ≤ i) × (i ≤ 15)) other_ids (search rules)
 
   by_other : same_qos q default ≡ false → (o : Option Bound) → find (λ (b : Bound). same_qos q b.qos) bound ≡ o →
-      id_or_new o (without name bound) ≡ Some id → IsIdOf default (without name bound) q id
+      id_or_new o (without_bound name bound) ≡ Some id → IsIdOf default (without_bound name bound) q id
   by_other isnt (Some c) there found =
       let same : c.bearer.0 ≡ id = cc in
-      subst (λ (n : ℕ). IsIdOf default (without name bound) q n) same (by_old isnt c there)
+      subst (λ (n : ℕ). IsIdOf default (without_bound name bound) q n) same (by_old isnt c there)
   by_other isnt None there found = by_new isnt there found
 
-  pub given_id : id_excluding default bound (without name bound) q ≡ Some id → IsIdOf default (without name bound) q id
+  pub given_id : id_excluding default bound (without_bound name bound) q ≡ Some id → IsIdOf default (without_bound name bound) q id
   given_id found =
       elim (cases_Bool (same_qos q default)) [
         | inl is ↦ by_default is (rw is at found)
@@ -141,8 +141,8 @@ module _ (default : Qos) (name : List ℕ) (bound : List Bound) (q : Qos) (id : 
       ]
 
 -- a pair that finds a bearer gets an id
-pub gets_id : (default : Qos) (name : List ℕ) (bound : List Bound) (q : Qos) → finds_no_bearer default (without name bound) q ≡ false →
-    id_excluding default bound (without name bound) q ≡ None → ⊥
+pub gets_id : (default : Qos) (name : List ℕ) (bound : List Bound) (q : Qos) → finds_no_id default (without_bound name bound) q ≡ false →
+    id_excluding default bound (without_bound name bound) q ≡ None → ⊥
 gets_id default name bound q accepted none =
     elim (cases_Bool (same_qos q default)) [
       | inl is ↦
@@ -152,14 +152,14 @@ gets_id default name bound q accepted none =
     ]
   where
     without_id : same_qos q default ≡ false → (o : Option Bound) → find (λ (b : Bound). same_qos q b.qos) bound ≡ o →
-        id_or_new o (without name bound) ≡ None → ⊥
+        id_or_new o (without_bound name bound) ≡ None → ⊥
     without_id isnt (Some c) there none = absurd (cc)
     without_id isnt None there none =
-        let others : All (λ (b : Bound). same_qos q b.qos ≡ false) (without name bound) =
-        All-filter (λ (b : Bound). not (is_named name b)) (λ (b : Bound). same_qos q b.qos ≡ false) bound
+        let others : All (λ (b : Bound). same_qos q b.qos ≡ false) (without_bound name bound) =
+        All-filter (λ (b : Bound). not (is_bound_as name b)) (λ (b : Bound). same_qos q b.qos ≡ false) bound
         (none_passes (λ (b : Bound). same_qos q b.qos) bound there) in
-        let unheld : has_pair (λ (b : Bound). b.qos) default (without name bound) q ≡ false =
-        or_from (same_qos q default) (list_any (λ (b : Bound). same_qos q b.qos) (without name bound)) isnt
-        (list_any_none (λ (b : Bound). same_qos q b.qos) (without name bound) others) in
+        let unheld : has_pair (λ (b : Bound). b.qos) default (without_bound name bound) q ≡ false =
+        or_from (same_qos q default) (list_any (λ (b : Bound). same_qos q b.qos) (without_bound name bound)) isnt
+        (list_any_none (λ (b : Bound). same_qos q b.qos) (without_bound name bound) others) in
         let bad : true ≡ false = rw (unheld, none) at accepted in
         absurd (cc)

@@ -1,4 +1,4 @@
--- Where a rule is put.
+-- Where a rule is with_bound.
 use Rattle.std.proofs.Common.{◌≡◌, ◌≤◌, ◌<◌, ℕ, zero, suc, Bool, true, false, List, [], ◌∷◌, ◌++◌, refl, ap, arith, inl, inr, length, get_or, slice_set, Some, None}
 use Rattle.std.specs.Prelude.{nat_lt, position}
 use Rattle.std.specs.List.{list_any, position_or_len}
@@ -7,28 +7,28 @@ use Rattle.std.proofs.lemmas.List.Quantifiers.{position-Some}
 use Rattle.std.proofs.lemmas.List.Folds.{list_any_none}
 use Rattle.std.proofs.lemmas.List.Sums.{fails_before_first}
 use Rattle.pcef_bearer.specs.declared.bearers.Bound.{Bound}
-use Rattle.pcef_bearer.specs.Bindings.{is_named}
-use Rattle.pcef_bearer.specs.BindingSteps.{put}
+use Rattle.pcef_bearer.specs.Bindings.{is_bound_as}
+use Rattle.pcef_bearer.specs.BindingSteps.{with_bound}
 
 -- behind all rules, where none has the name
-pub put_behind : (new : Bound) (bound : List Bound) → list_any (is_named new.name) bound ≡ false → put new bound ≡ bound ++ new ∷ []
+pub put_behind : (new : Bound) (bound : List Bound) → list_any (is_bound_as new.name) bound ≡ false → with_bound new bound ≡ bound ++ new ∷ []
 put_behind new [] none = refl
 put_behind new (b ∷ bound) none =
-    let parts = or_parts (is_named new.name b) (list_any (is_named new.name) bound) none in
+    let parts = or_parts (is_bound_as new.name b) (list_any (is_bound_as new.name) bound) none in
     rw (parts.0, put_behind new bound parts.1) refl
 
 -- in the place of the first one of the name
-put_first : (new : Bound) (bound : List Bound) (i : ℕ) (d : Bound) → i < length bound → is_named new.name (get_or bound i d) ≡ true →
-    ((k : ℕ) → k < i → is_named new.name (get_or bound k d) ≡ false) → slice_set bound i new ≡ put new bound
+put_first : (new : Bound) (bound : List Bound) (i : ℕ) (d : Bound) → i < length bound → is_bound_as new.name (get_or bound i d) ≡ true →
+    ((k : ℕ) → k < i → is_bound_as new.name (get_or bound k d) ≡ false) → slice_set bound i new ≡ with_bound new bound
 put_first new [] i d within is first = absurd (omega arith)
 put_first new (b ∷ bound) zero d within is first = rw is refl
 put_first new (b ∷ bound) (suc i) d within is first =
-    let isnt : is_named new.name b ≡ false = first 0 (omega arith) in
+    let isnt : is_bound_as new.name b ≡ false = first 0 (omega arith) in
     rw isnt (ap (λ rest. b ∷ rest) (put_first new bound i d (omega arith) is (λ k below. first (suc k) (omega arith))))
 
-pub put_at : (new : Bound) (bound : List Bound) (i : ℕ) → position (is_named new.name) bound ≡ Some i → slice_set bound i new ≡ put new bound
+pub put_at : (new : Bound) (bound : List Bound) (i : ℕ) → position (is_bound_as new.name) bound ≡ Some i → slice_set bound i new ≡ with_bound new bound
 put_at new bound i at =
-    let found = position-Some (is_named new.name) bound i new at in
+    let found = position-Some (is_bound_as new.name) bound i new at in
     put_first new bound i new found.0 found.1 found.2
 
 -- where no place is found, none has the name

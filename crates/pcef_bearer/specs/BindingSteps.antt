@@ -19,15 +19,15 @@ use Rattle.pcef_model.specs.Commands.{takes_away}
 use Rattle.pcef_model.specs.Named.{put_by, without_name}
 use Rattle.pcef_bearer.specs.declared.bearers.Bound.{Bound}
 use Rattle.pcef_bearer.specs.declared.bearers.Released.{Released}
-use Rattle.pcef_bearer.specs.Bindings.{Agree, Binding, DifferInName, bound_at, is_named, is_present, total_down, total_up}
+use Rattle.pcef_bearer.specs.Bindings.{Agree, Binding, DifferInName, bound_at, is_bound_as, is_present, bound_down, bound_up}
 
 -- ---- rules by name
-abbrev pub without : List ℕ → List Bound → List Bound
-without name bound = without_name (λ b. b.name) name bound
+abbrev pub without_bound : List ℕ → List Bound → List Bound
+without_bound name bound = without_name (λ b. b.name) name bound
 
 -- the rules with this one: a rule that is bound anew keeps its place
-abbrev pub put : Bound → List Bound → List Bound
-put new bound = put_by (λ b. b.name) new bound
+abbrev pub with_bound : Bound → List Bound → List Bound
+with_bound new bound = put_by (λ b. b.name) new bound
 
 -- ---- the bearer that a rule gets
 -- the id of a bearer that is there, or the least one that is free beside these rules
@@ -44,29 +44,29 @@ id_excluding default before others q =
 
 -- the id that a rule of this name gets by this pair
 abbrev pub id_for : Binding → List ℕ → Qos → Option ℕ
-id_for v name q = id_excluding v.default_qos v.bound (without name v.bound) q
+id_for v name q = id_excluding v.default_qos v.bound (without_bound name v.bound) q
 
 abbrev pub GetsId : Binding → List ℕ → Qos → ℕ → Type 0
 GetsId v name q id = id_for v name q ≡ Some id
 
 -- the number of an id, where there is one
-abbrev pub number_of : Option BearerId → Option ℕ
-number_of None = None
-number_of (Some id) = Some id.0
+abbrev pub id_number : Option BearerId → Option ℕ
+id_number None = None
+id_number (Some id) = Some id.0
 
 -- ---- why a rule isn't bound
 -- a new pair needs a free id beside the rules that stay
-abbrev pub finds_no_bearer : Qos → List Bound → Qos → Bool
-finds_no_bearer default others q = not (has_pair (λ b. b.qos) default others q) && is_none (least_free (λ b. b.bearer.0) others)
+abbrev pub finds_no_id : Qos → List Bound → Qos → Bool
+finds_no_id default others q = not (has_pair (λ b. b.qos) default others q) && is_none (least_free (λ b. b.bearer.0) others)
 
--- the refusals of a binding with this pair and these rates, beside the rules that stay
-abbrev pub refusals : Binding → List Bound → Qos → Option Rates → Conditions Refusal
-refusals v others q rates =
-    bind_refusals v.qcis v.capacity q rates (finds_no_bearer v.default_qos others q) (total_up others) (total_down others)
+-- the binding_refusals of a binding with this pair and these rates, beside the rules that stay
+abbrev pub binding_refusals : Binding → List Bound → Qos → Option Rates → Conditions Refusal
+binding_refusals v others q rates =
+    bind_refusals v.qcis v.capacity q rates (finds_no_id v.default_qos others q) (bound_up others) (bound_down others)
 
 -- the first refusal of a rule of this name with this pair and these rates
 abbrev pub first_refusal : Binding → List ℕ → Qos → Option Rates → Option Refusal
-first_refusal v name q rates = first_of (refusals v (without name v.bound) q rates)
+first_refusal v name q rates = first_of (binding_refusals v (without_bound name v.bound) q rates)
 
 abbrev pub IsAccepted : Binding → List ℕ → Qos → Option Rates → Type 0
 IsAccepted v name q rates = first_refusal v name q rates ≡ None
@@ -83,22 +83,22 @@ IsRefusalBy None refusal = refusal ≡ NoMemory
 
 -- a rule of this name is bound, or there is room for one more
 abbrev pub HasRoom : List ℕ → ℕ → List Bound → Type 0
-HasRoom name room bound = list_any (is_named name) bound ≡ false → length bound < room
+HasRoom name room bound = list_any (is_bound_as name) bound ≡ false → length bound < room
 
 -- ---- rates
 -- both directions
-abbrev pub total : List Bound → Sums
-total bound = record { up = total_up bound; down = total_down bound }
+abbrev pub bound_total : List Bound → Sums
+bound_total bound = record { up = bound_up bound; down = bound_down bound }
 
 -- what the rates would sum up to with a rule of this name and these rates
 abbrev pub total_with : Binding → List ℕ → Option Rates → Sums
 total_with v name rates = record {
-  up = total_up (without name v.bound) + rate_up rates;
-  down = total_down (without name v.bound) + rate_down rates;
+  up = bound_up (without_bound name v.bound) + rate_up rates;
+  down = bound_down (without_bound name v.bound) + rate_down rates;
 }
 
 -- ---- the binding after a step
--- a binding without bound rules
+-- a binding without_bound bound rules
 abbrev pub empty_binding : Qos → Sums → List (Option Kind) → Binding
 empty_binding default_qos capacity qcis =
     record { default_qos = default_qos; capacity = capacity; qcis = qcis; bound = [] }
@@ -109,7 +109,7 @@ with_rules v bound = record { default_qos = v.default_qos; capacity = v.capacity
 
 -- the binding with a rule of this name bound to this id, in its old place or behind all others
 abbrev pub bound_with : Binding → List ℕ → Qos → Option Rates → ℕ → Binding
-bound_with v name q rates id = with_rules v (put (bound_at name q rates id) v.bound)
+bound_with v name q rates id = with_rules v (with_bound (bound_at name q rates id) v.bound)
 
 -- the rules that a command keeps
 abbrev pub kept_by : Command → List Bound → List Bound
@@ -118,9 +118,9 @@ kept_by command bound = filter (λ b. not (takes_away command b.name b.bearer.0)
 -- what is left of the rule of a name, where one is bound: its bearer ends where the rules that stay aren't on it
 abbrev pub left_by : List ℕ → List Bound → Option Released
 left_by name bound =
-    option_map (λ b. record { bearer = b.bearer; ended = not (is_present b.bearer.0 (without name bound)) }) (find (is_named name) bound)
+    option_map (λ b. record { bearer = b.bearer; ended = not (is_present b.bearer.0 (without_bound name bound)) }) (find (is_bound_as name) bound)
 
--- the QCI and ARP of a bearer: those of the rules on it, which all have the same; the default bearer's without one, too
+-- the QCI and ARP of a bearer: those of the rules on it, which all have the same; the default bearer's without_bound one, too
 abbrev pub qos_on : ℕ → Binding → Option Qos
 qos_on id v = if id == default_id then Some v.default_qos else option_map (λ b. b.qos) (find (λ b. b.bearer.0 == id) v.bound)
 
@@ -137,8 +137,8 @@ pub record IsBinding (v : Binding) : Type 0 where
   pub names : AllPairs DifferInName v.bound
   pub ids : All (HasItsId v.default_qos) v.bound
   pub pairs : AllPairs Agree v.bound
-  pub within_up : total_up v.bound ≤ v.capacity.up
-  pub within_down : total_down v.bound ≤ v.capacity.down
+  pub within_up : bound_up v.bound ≤ v.capacity.up
+  pub within_down : bound_down v.bound ≤ v.capacity.down
 
 -- ---- for private clauses
 -- the first of these ids that none of these rules is on

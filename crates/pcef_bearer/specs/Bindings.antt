@@ -26,11 +26,11 @@ abbrev pub bound_at : List ℕ → Qos → Option Rates → ℕ → Bound
 bound_at name q rates id = record { name = name; qos = q; rates = rates; bearer = record { 0 = id } }
 
 -- ---- the bearer of a rule
-abbrev pub is_named : List ℕ → Bound → Bool
-is_named name b = has_name (λ c. c.name) name b
+abbrev pub is_bound_as : List ℕ → Bound → Bool
+is_bound_as name b = has_name (λ c. c.name) name b
 
-abbrev pub bearer_of : List ℕ → List Bound → Option BearerId
-bearer_of name bound = option_map (λ b. b.bearer) (find (is_named name) bound)
+abbrev pub bearer_of_rule : List ℕ → List Bound → Option BearerId
+bearer_of_rule name bound = option_map (λ b. b.bearer) (find (is_bound_as name) bound)
 
 -- two rules are on one bearer exactly where they have the same pair
 abbrev pub Agree : Bound → Bound → Type 0
@@ -40,11 +40,11 @@ abbrev pub DifferInName : Bound → Bound → Type 0
 DifferInName a b = same_name a.name b.name ≡ false
 
 -- ---- what a bearer guarantees
-abbrev pub total_up : List Bound → ℕ
-total_up bound = sum_up (λ b. b.rates) bound
+abbrev pub bound_up : List Bound → ℕ
+bound_up bound = sum_up (λ b. b.rates) bound
 
-abbrev pub total_down : List Bound → ℕ
-total_down bound = sum_down (λ b. b.rates) bound
+abbrev pub bound_down : List Bound → ℕ
+bound_down bound = sum_down (λ b. b.rates) bound
 
 -- the rules on the bearer with this id
 abbrev pub rules_on : ℕ → List Bound → List Bound
@@ -57,4 +57,4 @@ is_present id bound = (id == default_id) || list_any (λ b. b.bearer.0 == id) bo
 -- the sums over the rules on the bearer with this id, if there is one
 abbrev pub guaranteed : ℕ → List Bound → Option Sums
 guaranteed id bound =
-    if is_present id bound then Some (record { up = total_up (rules_on id bound); down = total_down (rules_on id bound) }) else None
+    if is_present id bound then Some (record { up = bound_up (rules_on id bound); down = bound_down (rules_on id bound) }) else None

@@ -5,8 +5,8 @@ ghost use Rattle.std.specs.List.{list_any};
 ghost use Rattle.pcef_rule.specs.declared.qci.Kind.TheVariants as kind;
 ghost use Rattle.pcef_rule.specs.QciKinds.{kind_of};
 ghost use Rattle.pcef_model.specs.declared.answer.OpenFault.TheVariants as fault;
-ghost use Rattle.pcef_bearer.specs.Bindings.{bearer_of, guaranteed, is_named, rules_on};
-ghost use Rattle.pcef_bearer.specs.BindingSteps.{bound_with, empty_binding, first_refusal, id_for, kept_by, left_by, number_of, qos_on, refusal_in, total, total_with, with_rules, without, GetsId, HasRoom, IsAccepted, IsBinding, IsRefusalBy};
+ghost use Rattle.pcef_bearer.specs.Bindings.{bearer_of_rule, guaranteed, is_bound_as, rules_on};
+ghost use Rattle.pcef_bearer.specs.BindingSteps.{bound_with, empty_binding, first_refusal, id_for, kept_by, left_by, id_number, qos_on, refusal_in, bound_total, total_with, with_rules, without_bound, GetsId, HasRoom, IsAccepted, IsBinding, IsRefusalBy};
 ghost use Rattle.pcef_model.specs.Bearers.{is_gbr, is_non_gbr};
 ghost use Rattle.pcef_model.specs.Refusals.{first_of, over_room};
 
@@ -160,7 +160,7 @@ impl Bearers {
 
     /// Whether a rule of this name is bound.
     pub fn is_bound(&self, name: &RuleName) -> bool
-        ensures { result ≡ list_any (is_named name.now) self.now.bound }
+        ensures { result ≡ list_any (is_bound_as name.now) self.now.bound }
     {
         has_name(&self.bound, name)
     }
@@ -191,7 +191,7 @@ impl Bearers {
 
     /// The sums of the guaranteed rates of all rules.
     pub fn total(&self) -> Sums
-        ensures { result ≡ total self.now.bound }
+        ensures { result ≡ bound_total self.now.bound }
     {
         sums_of_all(&self.bound)
     }
@@ -199,7 +199,7 @@ impl Bearers {
     /// The bearer that a rule of this name gets by this pair: the one of the pair, or else the least id that no other
     /// rule is on.
     pub fn bearer_for(&self, name: &RuleName, qos: Qos) -> Option<BearerId>
-        ensures { number_of result ≡ id_for self.now name.now qos }
+        ensures { id_number result ≡ id_for self.now name.now qos }
     {
         self.bearer_excluding(name, &qos)
     }
@@ -232,7 +232,7 @@ impl Bearers {
     }
 
     fn bearer_excluding(&self, name: &RuleName, qos: &Qos) -> Option<BearerId>
-        ensures { number_of result ≡ id_for self.now name.now qos.now }
+        ensures { id_number result ≡ id_for self.now name.now qos.now }
     {
         id_excluding(&self.default_qos, name, &self.bound, qos)
     }
@@ -280,7 +280,7 @@ impl Bearers {
         qos: Qos,
         rates: Option<Rates>,
     ) -> Result<BearerId, Refusal>
-        requires new { list_any (is_named name) self.old.bound ≡ false }
+        requires new { list_any (is_bound_as name) self.old.bound ≡ false }
         requires room { length self.old.bound < 64 }
         ensures refused { IfErr result (IsRefusalBy (first_refusal self.old name qos rates)) }
         ensures accepted { OnOk result (first_refusal self.old name qos rates ≡ None) }
@@ -306,7 +306,7 @@ impl Bearers {
         qos: Qos,
         rates: Option<Rates>,
     ) -> Result<BearerId, Refusal>
-        requires { list_any (is_named name) self.old.bound ≡ true }
+        requires { list_any (is_bound_as name) self.old.bound ≡ true }
         ensures refused { refusal_in result ≡ first_refusal self.old name qos rates }
         ensures unchanged { OnErr result (self.new ≡ self.old) }
         ensures bearer { IfOk result (λ id. GetsId self.old name qos id.0) }
@@ -343,7 +343,7 @@ impl Bearers {
     /// Drops the rule of this name, and returns what it leaves, or `None` where no rule of this name is bound.
     pub fn unbind(&mut self, name: &RuleName) -> Option<Released>
         ensures released { result ≡ left_by name.now self.old.bound }
-        ensures bound { self.new ≡ with_rules self.old (without name.now self.old.bound) }
+        ensures bound { self.new ≡ with_rules self.old (without_bound name.now self.old.bound) }
     {
         let Some(bearer) = self.bearer_of(name) else {
             return None;
@@ -362,7 +362,7 @@ impl Bearers {
 
     /// The bearer of the rule of this name, if it is bound.
     pub fn bearer_of(&self, name: &RuleName) -> Option<BearerId>
-        ensures { result ≡ bearer_of name.now self.now.bound }
+        ensures { result ≡ bearer_of_rule name.now self.now.bound }
     {
         match bound_under(&self.bound, name) {
             Some(b) => Some(b.bearer),

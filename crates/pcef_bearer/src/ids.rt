@@ -5,7 +5,7 @@ ghost use Rattle.std.specs.List.{list_any};
 ghost use Rattle.std.specs.Option.{option_copied};
 ghost use Rattle.pcef_model.specs.Bearers.{least_free};
 ghost use Rattle.pcef_bearer.specs.Bindings.{is_present, rules_on};
-ghost use Rattle.pcef_bearer.specs.BindingSteps.{finds_no_bearer, first_unused, id_excluding, number_of, without};
+ghost use Rattle.pcef_bearer.specs.BindingSteps.{finds_no_id, first_unused, id_excluding, id_number, without_bound};
 
 use crate::bearers::Bound;
 use crate::lookup::{has_pair_excluding, is_named, of_pair, same_qos};
@@ -16,7 +16,7 @@ pub const DEFAULT_BEARER: BearerId = BearerId(5);
 
 /// Whether the bearer of this id carries a rule other than the one of this name.
 fn is_used_excluding(name: &RuleName, bound: &[Bound], id: u8) -> bool
-    ensures { result ≡ list_any (λ b. id == b.bearer.0) (without name.now bound.now) }
+    ensures { result ≡ list_any (λ b. id == b.bearer.0) (without_bound name.now bound.now) }
 {
     for b in bound {
         if !is_named(name, b) && id == b.bearer.0 {
@@ -28,7 +28,7 @@ fn is_used_excluding(name: &RuleName, bound: &[Bound], id: u8) -> bool
 
 /// The first of these ids whose bearer carries no rule other than the one of this name.
 fn first_free(ids: &[u8], name: &RuleName, bound: &[Bound]) -> Option<BearerId>
-    ensures { number_of result ≡ first_unused ids.now (without name.now bound.now) }
+    ensures { id_number result ≡ first_unused ids.now (without_bound name.now bound.now) }
 {
     for id in ids {
         if !is_used_excluding(name, bound, *id) {
@@ -40,7 +40,7 @@ fn first_free(ids: &[u8], name: &RuleName, bound: &[Bound]) -> Option<BearerId>
 
 /// The least id whose bearer carries no rule other than the one of this name.
 pub(crate) fn least_free(name: &RuleName, bound: &[Bound]) -> Option<BearerId>
-    ensures { number_of result ≡ least_free (λ b. b.bearer.0) (without name.now bound.now) }
+    ensures { id_number result ≡ least_free (λ b. b.bearer.0) (without_bound name.now bound.now) }
 {
     first_free(&[6, 7, 8, 9, 10, 11, 12, 13, 14, 15], name, bound)
 }
@@ -52,8 +52,8 @@ pub(crate) fn id_excluding(
     bound: &[Bound],
     qos: &Qos,
 ) -> Option<BearerId>
-    ensures { number_of result
-        ≡ id_excluding default.now bound.now (without name.now bound.now) qos.now }
+    ensures { id_number result
+        ≡ id_excluding default.now bound.now (without_bound name.now bound.now) qos.now }
 {
     if same_qos(qos, default) {
         return Some(DEFAULT_BEARER);
@@ -66,7 +66,7 @@ pub(crate) fn id_excluding(
 
 /// Whether, without the rule of this name, this pair has no bearer and no id is free for one.
 pub(crate) fn finds_no_bearer(default: &Qos, name: &RuleName, bound: &[Bound], qos: &Qos) -> bool
-    ensures { result ≡ finds_no_bearer default.now (without name.now bound.now) qos.now }
+    ensures { result ≡ finds_no_id default.now (without_bound name.now bound.now) qos.now }
 {
     if same_qos(qos, default) || has_pair_excluding(name, bound, qos) {
         return false;

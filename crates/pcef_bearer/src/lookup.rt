@@ -5,8 +5,8 @@ ghost use Rattle.std.specs.List.{list_any};
 ghost use Rattle.std.specs.Option.{option_copied};
 ghost use Rattle.pcef_model.specs.Commands.{takes_away};
 ghost use Rattle.pcef_model.specs.Setting.{same_flag, same_qos};
-ghost use Rattle.pcef_bearer.specs.Bindings.{is_named};
-ghost use Rattle.pcef_bearer.specs.BindingSteps.{kept_by, put, without, HasRoom};
+ghost use Rattle.pcef_bearer.specs.Bindings.{is_bound_as};
+ghost use Rattle.pcef_bearer.specs.BindingSteps.{kept_by, with_bound, without_bound, HasRoom};
 
 use crate::bearers::{Bound, Places};
 use pcef_model::Command;
@@ -14,7 +14,7 @@ use pcef_rule::{Qos, RuleName};
 
 /// Whether a rule has this name.
 pub(crate) fn is_named(name: &RuleName, bound: &Bound) -> bool
-    ensures { result ≡ is_named name.now bound.now }
+    ensures { result ≡ is_bound_as name.now bound.now }
 {
     bound.name == *name
 }
@@ -37,21 +37,21 @@ pub(crate) fn same_qos(a: &Qos, b: &Qos) -> bool
 
 /// The place of the rule of this name, if it is bound.
 pub(crate) fn place_of(bound: &[Bound], name: &RuleName) -> Option<usize>
-    ensures { result ≡ position (is_named name.now) bound.now }
+    ensures { result ≡ position (is_bound_as name.now) bound.now }
 {
     bound.iter().position(|b| is_named(name, b))
 }
 
 /// Whether a rule of this name is bound.
 pub(crate) fn has_name(bound: &[Bound], name: &RuleName) -> bool
-    ensures { result ≡ list_any (is_named name.now) bound.now }
+    ensures { result ≡ list_any (is_bound_as name.now) bound.now }
 {
     bound.iter().any(|b| is_named(name, b))
 }
 
 /// The rule of this name, if it is bound.
 pub(crate) fn bound_under<'a>(bound: &'a [Bound], name: &RuleName) -> Option<&'a Bound>
-    ensures { option_copied result ≡ find (is_named name.now) bound.now }
+    ensures { option_copied result ≡ find (is_bound_as name.now) bound.now }
 {
     for b in bound {
         if is_named(name, b) {
@@ -75,7 +75,7 @@ pub(crate) fn of_pair<'a>(bound: &'a [Bound], qos: &Qos) -> Option<&'a Bound>
 
 /// Whether a rule other than the one of this name has this pair.
 pub(crate) fn has_pair_excluding(name: &RuleName, bound: &[Bound], qos: &Qos) -> bool
-    ensures { result ≡ list_any (λ b. same_qos qos.now b.qos) (without name.now bound.now) }
+    ensures { result ≡ list_any (λ b. same_qos qos.now b.qos) (without_bound name.now bound.now) }
 {
     for b in bound {
         if !is_named(name, b) && same_qos(qos, &b.qos) {
@@ -87,11 +87,11 @@ pub(crate) fn has_pair_excluding(name: &RuleName, bound: &[Bound], qos: &Qos) ->
 
 /// Drops the rule of this name.
 pub(crate) fn drop_named(bound: &mut Vec<Bound>, name: &RuleName)
-    ensures { bound.new.items ≡ without name.now bound.old.items }
+    ensures { bound.new.items ≡ without_bound name.now bound.old.items }
 {
     bound.retain(
         |b: &Bound| -> bool
-            ensures { result ≡ not (is_named name.entry.now b.now) }
+            ensures { result ≡ not (is_bound_as name.entry.now b.now) }
         { !is_named(name, b) },
     );
 }
@@ -110,7 +110,7 @@ pub(crate) fn drop_taken(bound: &mut Vec<Bound>, command: &Command)
 /// Puts a rule in the place of the one of its name, or behind all others: then all move to `places` with it.
 pub(crate) fn put(bound: &mut Vec<Bound>, places: Places, new: Bound)
     requires { HasRoom new.name places bound.old.items }
-    ensures { bound.new.items ≡ put new bound.old.items }
+    ensures { bound.new.items ≡ with_bound new bound.old.items }
 {
     match place_of(bound, &new.name) {
         Some(place) => bound[place] = new,

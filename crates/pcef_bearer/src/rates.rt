@@ -2,8 +2,8 @@
 
 ghost use Rattle.std.specs.Prelude.{◌≡◌, ◌<◌, ◌≤◌, ◌+◌, ◌^◌, nat_lt, if◌then◌else◌};
 ghost use Rattle.pcef_model.specs.Bearers.{rate_down, rate_up};
-ghost use Rattle.pcef_bearer.specs.Bindings.{rules_on, total_down, total_up};
-ghost use Rattle.pcef_bearer.specs.BindingSteps.{without};
+ghost use Rattle.pcef_bearer.specs.Bindings.{rules_on, bound_down, bound_up};
+ghost use Rattle.pcef_bearer.specs.BindingSteps.{without_bound};
 
 use crate::bearers::Bound;
 use crate::lookup::is_named;
@@ -37,10 +37,10 @@ fn sums_if(counts: bool, bound: &Bound) -> Sums
 
 /// The sums over the rules other than the one of this name.
 pub(crate) fn sums_excluding(name: &RuleName, bound: &[Bound]) -> Sums
-    requires up { total_up bound.now < 2 ^ 64 }
-    requires down { total_down bound.now < 2 ^ 64 }
-    ensures up { result.up ≡ total_up (without name.now bound.now) }
-    ensures down { result.down ≡ total_down (without name.now bound.now) }
+    requires up { bound_up bound.now < 2 ^ 64 }
+    requires down { bound_down bound.now < 2 ^ 64 }
+    ensures up { result.up ≡ bound_up (without_bound name.now bound.now) }
+    ensures down { result.down ≡ bound_down (without_bound name.now bound.now) }
 {
     let mut up: u64 = 0;
     let mut down: u64 = 0;
@@ -54,10 +54,10 @@ pub(crate) fn sums_excluding(name: &RuleName, bound: &[Bound]) -> Sums
 
 /// The sums over the rules on the bearer of this id.
 pub(crate) fn sums_on(id: BearerId, bound: &[Bound]) -> Sums
-    requires up { total_up bound.now < 2 ^ 64 }
-    requires down { total_down bound.now < 2 ^ 64 }
-    ensures up { result.up ≡ total_up (rules_on id.0 bound.now) }
-    ensures down { result.down ≡ total_down (rules_on id.0 bound.now) }
+    requires up { bound_up bound.now < 2 ^ 64 }
+    requires down { bound_down bound.now < 2 ^ 64 }
+    ensures up { result.up ≡ bound_up (rules_on id.0 bound.now) }
+    ensures down { result.down ≡ bound_down (rules_on id.0 bound.now) }
 {
     let mut up: u64 = 0;
     let mut down: u64 = 0;
@@ -71,10 +71,10 @@ pub(crate) fn sums_on(id: BearerId, bound: &[Bound]) -> Sums
 
 /// The sums over all rules.
 pub(crate) fn sums_of_all(bound: &[Bound]) -> Sums
-    requires up { total_up bound.now < 2 ^ 64 }
-    requires down { total_down bound.now < 2 ^ 64 }
-    ensures up { result.up ≡ total_up bound.now }
-    ensures down { result.down ≡ total_down bound.now }
+    requires up { bound_up bound.now < 2 ^ 64 }
+    requires down { bound_down bound.now < 2 ^ 64 }
+    ensures up { result.up ≡ bound_up bound.now }
+    ensures down { result.down ≡ bound_down bound.now }
 {
     let mut up: u64 = 0;
     let mut down: u64 = 0;

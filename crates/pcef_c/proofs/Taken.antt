@@ -4,7 +4,7 @@ use Rattle.std.specs.Prelude.{min}
 use Rattle.std.proofs.lemmas.Bool.{cases_lt}
 use Rattle.std.proofs.lemmas.List.{append_assoc, drop-set-lt, drop_all, drop_more, length-set, set_split, take-append-drop, take_more_set}
 use Rattle.pcef_handle.specs.declared.worker.WorkerHandle.{WorkerHandle}
-use Rattle.pcef_c.specs.Taking.{Goes, IsTaken, TakesAll, ends_taking}
+use Rattle.pcef_c.specs.Taking.{Goes, IsPacketTaken, TakesAll, ends_taking}
 use Rattle.pcef_c.specs.declared.judging.CPacket.{CPacket}
 use Rattle.pcef_c.specs.declared.judging.CVerdict.{CVerdict}
 
@@ -24,7 +24,7 @@ go_on_from_start packets before old = record {
 
 -- one more is taken, and its verdict doesn't end the taking
 pub go_on : (packets : List CPacket) (before now : List CVerdict) (old worker next : WorkerHandle) (place : ℕ) (d : CPacket) (v : CVerdict) → place < length packets → place < length now →
-    IsTaken worker (get_or packets place d) v next → ends_taking v ≡ false → GoOnFrom packets before old place now worker → GoOnFrom packets before old (place + 1) (set now place v) next
+    IsPacketTaken worker (get_or packets place d) v next → ends_taking v ≡ false → GoOnFrom packets before old place now worker → GoOnFrom packets before old (place + 1) (set now place v) next
 go_on packets before now old worker next place d v within inside taken goes so_far =
     let room : place < length before = omega (arith, inside, so_far.length_is) in
     record {
@@ -50,7 +50,7 @@ go_on packets before now old worker next place d v within inside taken goes so_f
 
 -- its verdict ends the taking
 pub end_here : (packets : List CPacket) (before now : List CVerdict) (old worker next : WorkerHandle) (place : ℕ) (d : CPacket) (v : CVerdict) → place < length packets → place < length now →
-    IsTaken worker (get_or packets place d) v next → ends_taking v ≡ true → GoOnFrom packets before old place now worker → TakesAll packets before old place (set now place v) next
+    IsPacketTaken worker (get_or packets place d) v next → ends_taking v ≡ true → GoOnFrom packets before old place now worker → TakesAll packets before old place (set now place v) next
 end_here packets before now old worker next place d v within inside taken ends so_far =
     let room : place < length before = omega (arith, inside, so_far.length_is) in
     let here : TakesAll (get_or packets place d ∷ drop (place + 1) packets) (get_or before place v ∷ drop (place + 1) before) worker 0 (v ∷ drop (place + 1) before) next =

@@ -1,15 +1,12 @@
 -- The bearers that C gets (own choice).
-use Rattle.std.specs.Prelude.{ℕ, ◌≡◌, Bool, true, false, Result, Ok, Err}
+use Rattle.std.specs.Prelude.{ℕ, ◌≡◌, Result, Ok, Err}
 use Rattle.pcef_handle.specs.BearerStates.{bearer_in}
 use Rattle.pcef_handle.specs.declared.bearers.BearerRefusal.{BearerRefusal}
 use Rattle.pcef_handle.specs.declared.bearers.BearerRefusal.TheVariants.{NoBearer, NoSession}
 use Rattle.pcef_handle.specs.declared.bearers.BearerState.{BearerState}
 use Rattle.pcef_handle.specs.declared.held.Handle.{Handle}
+use Rattle.pcef_c.specs.Numbers.{flag_number}
 use Rattle.pcef_c.specs.declared.bearers.CBearer.{CBearer}
-
-abbrev pub flag_number : Bool → ℕ
-flag_number true = 1
-flag_number false = 0
 
 abbrev pub c_bearer_of : BearerState → CBearer
 c_bearer_of b = record {

@@ -7,7 +7,7 @@ use Rattle.pcef_handle.specs.Reporting.{ForgetsHandle, ReportsHandle}
 use Rattle.pcef_handle.specs.declared.held.Handle.{Handle}
 use Rattle.pcef_handle.specs.declared.line.CallRefusal.{CallRefusal}
 use Rattle.pcef_handle.specs.declared.opening.OpenRefusal.{OpenRefusal}
-use Rattle.pcef_c.specs.Numbers.{length_number, number_of, open_number}
+use Rattle.pcef_c.specs.Numbers.{length_number, flag_number, open_number}
 
 -- the session is what the text says, or there is a reason why it isn't opened
 abbrev pub OpenReturns : Handle → List ℕ → Handle → ℕ → Type 0
@@ -34,7 +34,7 @@ ForgetReturns old new number =
 
 -- there is no session any more, and the number says whether there was one
 abbrev pub Closes : Handle → Handle → ℕ → Type 0
-Closes old new number = (new.session ≡ None) × (new.next_number ≡ old.next_number) × (number ≡ number_of (is_some old.session))
+Closes old new number = (new.session ≡ None) × (new.next_number ≡ old.next_number) × (number ≡ flag_number (is_some old.session))
 
 -- the next session gets this number; the number that it would have had is returned
 abbrev pub NumberReturns : Handle → ℕ → Handle → ℕ → Type 0

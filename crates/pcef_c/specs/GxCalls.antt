@@ -19,9 +19,10 @@ use Rattle.pcef_handle.specs.Answering.{CopiesFront}
 use Rattle.pcef_handle.specs.declared.held.Handle.{Handle}
 use Rattle.pcef_model.specs.declared.trigger.AccessKind.{AccessKind}
 use Rattle.pcef_model.specs.declared.trigger.AccessKind.TheVariants.{PlmnChange, RatChange, UeTimeZoneChange, UserLocationChange}
-use Rattle.pcef_c.specs.GxNumbers.{begin_number, end_number, go_on_number, flag_number, hear_number, left_after, next_number, notice_number, stage_number}
+use Rattle.pcef_c.specs.GxNumbers.{begin_number, end_number, go_on_number, hear_number, left_after, next_number, notice_number, stage_number}
 use Rattle.pcef_c.specs.GxPorts.{nothing_left}
-use Rattle.pcef_c.specs.Named.{Named, named_with, nothing_named, part_of}
+use Rattle.pcef_c.specs.Numbers.{flag_number}
+use Rattle.pcef_c.specs.Named.{Named, named_with, nothing_named, named_part}
 use Rattle.pcef_c.specs.declared.gx_port.CLeft.{CLeft}
 use Rattle.pcef_c.specs.declared.gx_port.GxPort.{GxPort}
 use Rattle.pcef_c.specs.declared.gx_port.Part.{Part}
@@ -38,7 +39,7 @@ SetsPart (Some part) octets old new number =
 
 abbrev pub SetReturns : GxPort → ℕ → List ℕ → GxPort → ℕ → Type 0
 SetReturns old part octets new number =
-    SetsPart (part_of part) octets old new number × (new.gx.dialogue ≡ old.gx.dialogue) × (new.left ≡ old.left)
+    SetsPart (named_part part) octets old new number × (new.gx.dialogue ≡ old.gx.dialogue) × (new.left ≡ old.left)
 
 -- ---- the dialogue begins, or there is a reason why not; the parts of an identity have at most 1,024 octets
 abbrev pub speaker_of : Named → Speaker
@@ -88,8 +89,8 @@ RenewGxReturns old port new after number =
     × StaysBeside port after × (number ≡ go_on_number renewed)
 
 -- an event has the number of its event trigger (TS 29.212, clause 5.3.7)
-abbrev pub kind_of : ℕ → Option AccessKind
-kind_of n =
+abbrev pub access_kind : ℕ → Option AccessKind
+access_kind n =
     if n == 2 then Some RatChange
     else if n == 4 then Some PlmnChange
     else if n == 13 then Some UserLocationChange
@@ -103,7 +104,7 @@ NoticesBy (Some kind) old octets new number =
     × (new.next_number ≡ old.next_number) × (number ≡ notice_number noticed)
 
 abbrev pub NoticeReturns : Handle → ℕ → List ℕ → Handle → ℕ → Type 0
-NoticeReturns old kind octets new number = NoticesBy (kind_of kind) old octets new number
+NoticeReturns old kind octets new number = NoticesBy (access_kind kind) old octets new number
 
 -- ---- what is to be sent
 abbrev pub IsPutOctets : Option (List ℕ) → List ℕ → List ℕ → ℕ → Type 0
@@ -114,15 +115,15 @@ abbrev pub replied : Option Dialoguing → Option (List ℕ)
 replied None = None
 replied (Some d) = reply_of d
 
-abbrev pub requested : Option Dialoguing → Option (List ℕ)
-requested None = None
-requested (Some d) = option_map (λ o. o.message) d.ccrs.out
+abbrev pub request_in : Option Dialoguing → Option (List ℕ)
+request_in None = None
+request_in (Some d) = option_map (λ o. o.message) d.ccrs.out
 
 abbrev pub ReplyReturns : GxPort → List ℕ → GxPort → List ℕ → ℕ → Type 0
 ReplyReturns old before new after number = (new ≡ old) × IsPutOctets (replied old.gx.dialogue) before after number
 
 abbrev pub RequestReturns : GxPort → List ℕ → GxPort → List ℕ → ℕ → Type 0
-RequestReturns old before new after number = (new ≡ old) × IsPutOctets (requested old.gx.dialogue) before after number
+RequestReturns old before new after number = (new ≡ old) × IsPutOctets (request_in old.gx.dialogue) before after number
 
 abbrev pub AgainReturns : GxPort → GxPort → ℕ → Type 0
 AgainReturns old new number =

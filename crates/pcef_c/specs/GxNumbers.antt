@@ -1,5 +1,5 @@
 -- The numbers that C gets of a session over Gx (own choice). `include/pcef.h` has a name for each.
-use Rattle.std.specs.Prelude.{ℕ, Bool, true, false, Option, Some, None, is_some, Result, Ok, Err}
+use Rattle.std.specs.Prelude.{ℕ, Option, Some, None, is_some, Result, Ok, Err}
 use Rattle.pcef_gx_dialogue.specs.declared.answering.LeftToHost.{LeftToHost}
 use Rattle.pcef_gx_dialogue.specs.declared.granting.Grant.TheVariants as grant
 use Rattle.pcef_gx_dialogue.specs.declared.responder.RarDone.TheVariants as done
@@ -23,12 +23,8 @@ use Rattle.pcef_gx_messages.specs.declared.requesting.RequestKind.{RequestKind}
 use Rattle.pcef_gx_messages.specs.declared.requesting.RequestKind.TheVariants as kind
 use Rattle.pcef_model.specs.declared.answer.Refusal.TheVariants as refusal
 use Rattle.pcef_c.specs.GxPorts.{nothing_left}
-use Rattle.pcef_c.specs.Numbers.{open_number}
+use Rattle.pcef_c.specs.Numbers.{flag_number, open_number}
 use Rattle.pcef_c.specs.declared.gx_port.CLeft.{CLeft}
-
-abbrev pub flag_number : Bool → ℕ
-flag_number true = 1
-flag_number false = 0
 
 -- those of a profile are the numbers that `pcef_open` has for it
 abbrev pub begin_number : Result (Unit {0}) BeginRefusal → ℕ

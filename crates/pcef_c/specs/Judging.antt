@@ -15,8 +15,8 @@ use Rattle.pcef_c.specs.Numbers.{packet_number}
 use Rattle.pcef_c.specs.declared.judging.CPacket.{CPacket}
 use Rattle.pcef_c.specs.declared.judging.CVerdict.{CVerdict}
 
-abbrev pub dir_of : ℕ → Dir
-dir_of up = if up == 0 then Down else Up
+abbrev pub direction_by_flag : ℕ → Dir
+direction_by_flag up = if up == 0 then Down else Up
 
 abbrev pub status_of : Verdict → ℕ
 status_of (Passed rule bearer) = 0
@@ -24,13 +24,13 @@ status_of (Gated rule) = 1
 status_of Unmatched = 2
 status_of Stray = 3
 
-abbrev pub bearer_of : Verdict → ℕ
-bearer_of (Passed rule bearer) = bearer.0
-bearer_of other = 0
+abbrev pub verdict_bearer : Verdict → ℕ
+verdict_bearer (Passed rule bearer) = bearer.0
+verdict_bearer other = 0
 
-abbrev pub place_of : Option ℕ → ℕ
-place_of (Some place) = place
-place_of None = 255
+abbrev pub place_number : Option ℕ → ℕ
+place_number (Some place) = place
+place_number None = 255
 
 -- bit n stands for slot n
 abbrev pub flag_of : ℕ → ℕ
@@ -48,8 +48,8 @@ abbrev pub c_verdict_of : Result Judgement JudgeRefusal → CVerdict
 c_verdict_of (Ok d) = record {
   generation = d.generation;
   status = status_of d.verdict;
-  bearer = bearer_of d.verdict;
-  place = place_of d.place;
+  bearer = verdict_bearer d.verdict;
+  place = place_number d.place;
   slots = flags_of d.slots.items 0;
 }
 c_verdict_of (Err NoSession) = unjudged 4
@@ -59,7 +59,7 @@ c_verdict_of (Err TooFew) = unjudged 10
 -- the verdict is what the session of a handle decides of a packet
 abbrev pub IsVerdictOn : Handle → CPacket → CVerdict → Type 0
 IsVerdictOn h packet v =
-    (r : Result Judgement JudgeRefusal) × JudgesHandle h (dir_of packet.up) packet.octets.now packet.whole r × (v ≡ c_verdict_of r)
+    (r : Result Judgement JudgeRefusal) × JudgesHandle h (direction_by_flag packet.up) packet.octets.now packet.whole r × (v ≡ c_verdict_of r)
 
 -- as many packets are judged as there are verdicts, and their number is returned; no other verdict
 -- is written, and the handle stays

@@ -40,6 +40,6 @@ report_number (Ok next) = next
 report_number (Err refusal) = meet_number refusal
 
 -- how many rows never count
-abbrev pub left_number : Result ℕ MeetRefusal → ℕ
-left_number (Ok rows) = rows
-left_number (Err refusal) = meet_number refusal
+abbrev pub never_counted : Result ℕ MeetRefusal → ℕ
+never_counted (Ok rows) = rows
+never_counted (Err refusal) = meet_number refusal

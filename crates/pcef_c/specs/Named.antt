@@ -22,8 +22,8 @@ named_with part.DestinationRealm octets n = record n { destination_realm = octet
 named_with part.Avps octets n = record n { avps = octets }
 
 -- the parts by their numbers
-abbrev pub part_of : ℕ → Option Part
-part_of n =
+abbrev pub named_part : ℕ → Option Part
+named_part n =
     if n == 0 then Some part.SessionId
     else if n == 1 then Some part.OriginHost
     else if n == 2 then Some part.OriginRealm

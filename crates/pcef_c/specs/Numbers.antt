@@ -4,7 +4,7 @@ use Rattle.pcef_model.specs.declared.answer.OpenFault.{OpenFault}
 use Rattle.pcef_model.specs.declared.answer.OpenFault.TheVariants as opening
 use Rattle.pcef_packet.specs.declared.header.PacketFault.{PacketFault}
 use Rattle.pcef_packet.specs.declared.header.PacketFault.TheVariants as fault
-use Rattle.pcef_profile.specs.ProfileOf.{fault_number}
+use Rattle.pcef_profile.specs.ProfileOf.{profile_fault_number}
 use Rattle.pcef_handle.specs.declared.line.CallRefusal.{CallRefusal}
 use Rattle.pcef_handle.specs.declared.line.CallRefusal.TheVariants as call
 use Rattle.pcef_handle.specs.declared.opening.OpenRefusal.{OpenRefusal}
@@ -19,7 +19,7 @@ session_number opening.NoMemory = 7
 
 abbrev pub open_number : Result (Unit {0}) OpenRefusal → ℕ
 open_number (Ok done) = 0
-open_number (Err (refusal.Profile fault)) = fault_number fault
+open_number (Err (refusal.Profile fault)) = profile_fault_number fault
 open_number (Err (refusal.Session fault)) = session_number fault
 open_number (Err refusal.NoMemory) = 7
 open_number (Err refusal.NotUtf8) = 8
@@ -41,6 +41,7 @@ packet_number fault.ShortHeader = 7
 packet_number fault.BadHeaderLength = 8
 packet_number fault.BadTotalLength = 9
 
-abbrev pub number_of : Bool → ℕ
-number_of true = 1
-number_of false = 0
+-- 1 where it is so
+abbrev pub flag_number : Bool → ℕ
+flag_number true = 1
+flag_number false = 0

@@ -6,7 +6,7 @@ use Rattle.pcef_handle.specs.Working.{TakesPacket}
 use Rattle.pcef_handle.specs.declared.attached.TakeRefusal.{TakeRefusal}
 use Rattle.pcef_handle.specs.declared.attached.TakeRefusal.TheVariants as taking
 use Rattle.pcef_handle.specs.declared.worker.WorkerHandle.{WorkerHandle}
-use Rattle.pcef_c.specs.Judging.{bearer_of, dir_of, flags_of, place_of, status_of, unjudged}
+use Rattle.pcef_c.specs.Judging.{verdict_bearer, direction_by_flag, flags_of, place_number, status_of, unjudged}
 use Rattle.pcef_c.specs.Numbers.{packet_number}
 use Rattle.pcef_c.specs.declared.judging.CPacket.{CPacket}
 use Rattle.pcef_c.specs.declared.judging.CVerdict.{CVerdict}
@@ -16,8 +16,8 @@ abbrev pub taken_verdict : Item → Option ℕ → CVerdict
 taken_verdict i place = record {
   generation = i.row.generation;
   status = status_of i.row.verdict;
-  bearer = bearer_of i.row.verdict;
-  place = place_of place;
+  bearer = verdict_bearer i.row.verdict;
+  place = place_number place;
   slots = flags_of i.slots.items 0;
 }
 
@@ -46,9 +46,9 @@ TakenVerdict worker (Ok place) v = IsVerdictOf worker place v
 TakenVerdict worker (Err refusal) v = v ≡ unjudged (take_number refusal)
 
 -- a packet is taken, or its verdict says why it isn't
-abbrev pub IsTaken : WorkerHandle → CPacket → CVerdict → WorkerHandle → Type 0
-IsTaken old packet v new =
-    (r : Result (Option ℕ) TakeRefusal) × TakesPacket old (dir_of packet.up) packet.octets.now packet.whole r new × TakenVerdict new r v
+abbrev pub IsPacketTaken : WorkerHandle → CPacket → CVerdict → WorkerHandle → Type 0
+IsPacketTaken old packet v new =
+    (r : Result (Option ℕ) TakeRefusal) × TakesPacket old (direction_by_flag packet.up) packet.octets.now packet.whole r new × TakenVerdict new r v
 
 -- no further packet can be taken for now: there is no worker, 32 rows wait, or there is no memory
 abbrev pub ends_taking : CVerdict → Bool
@@ -65,5 +65,5 @@ abbrev pub TakesAll : List CPacket → List CVerdict → WorkerHandle → ℕ �
 TakesAll [] before old number after new = (number ≡ 0) × (after ≡ before) × (new ≡ old)
 TakesAll (packet ∷ packets) [] old number after new = (number ≡ 0) × (after ≡ []) × (new ≡ old)
 TakesAll (packet ∷ packets) (b ∷ before) old number after new =
-    (v : CVerdict) × (next : WorkerHandle) × IsTaken old packet v next
+    (v : CVerdict) × (next : WorkerHandle) × IsPacketTaken old packet v next
     × Goes (ends_taking v) (TakesAll packets before next) next v before number after new

@@ -5,8 +5,8 @@ use Rattle.pcef_handle.specs.declared.attached.AttachRefusal.{AttachRefusal}
 use Rattle.pcef_handle.specs.declared.attached.MeetRefusal.{MeetRefusal}
 use Rattle.pcef_handle.specs.declared.held.Handle.{Handle}
 use Rattle.pcef_handle.specs.declared.worker.WorkerHandle.{WorkerHandle}
-use Rattle.pcef_c.specs.Meeting.{attach_number, generation_number, left_number, refresh_number, report_number}
-use Rattle.pcef_c.specs.Numbers.{number_of}
+use Rattle.pcef_c.specs.Meeting.{attach_number, generation_number, never_counted, refresh_number, report_number}
+use Rattle.pcef_c.specs.Numbers.{flag_number}
 
 -- the number of the newest generation; the handle stays
 abbrev pub GenerationReturns : Handle → Handle → ℕ → Type 0
@@ -14,7 +14,7 @@ GenerationReturns old new number = (new ≡ old) × (number ≡ generation_numbe
 
 -- there is no worker any more, and the number says whether there was one
 abbrev pub DropReturns : WorkerHandle → WorkerHandle → ℕ → Type 0
-DropReturns old new number = (new.worker ≡ None) × (number ≡ number_of (is_some old.worker))
+DropReturns old new number = (new.worker ≡ None) × (number ≡ flag_number (is_some old.worker))
 
 -- a worker of the session lies at the worker's handle
 abbrev pub AttachReturns : Handle → WorkerHandle → Handle → WorkerHandle → ℕ → Type 0
@@ -38,4 +38,4 @@ FinishReturns h w g v number =
 -- the worker leaves without them
 abbrev pub AbandonReturns : Handle → WorkerHandle → Handle → WorkerHandle → ℕ → Type 0
 AbandonReturns h w g v number =
-    (r : Result ℕ MeetRefusal) × AbandonsWorker h w r g v × (g.next_number ≡ h.next_number) × (number ≡ left_number r)
+    (r : Result ℕ MeetRefusal) × AbandonsWorker h w r g v × (g.next_number ≡ h.next_number) × (number ≡ never_counted r)

@@ -1,8 +1,9 @@
 //! Bearers as C gets them.
 
 ghost use Rattle.std.specs.Prelude.{◌≡◌};
-ghost use Rattle.pcef_c.specs.Bearers.{BearerReturns, bearer_number, c_bearer_of, flag_number};
+ghost use Rattle.pcef_c.specs.Bearers.{BearerReturns, bearer_number, c_bearer_of};
 
+use crate::numbers::flag_number;
 use pcef_handle::{BearerRefusal, BearerState, Handle};
 
 /// What a bearer has, as numbers.
@@ -23,12 +24,6 @@ pub struct CBearer {
     pub preemption_vulnerability: u8,
     /// How many active rules are on it.
     pub rules: u8,
-}
-
-fn flag_number(flag: bool) -> u8
-    ensures { result ≡ flag_number flag }
-{
-    if flag { 1 } else { 0 }
 }
 
 fn c_bearer_of(state: &BearerState) -> CBearer

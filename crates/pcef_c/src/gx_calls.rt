@@ -1,15 +1,16 @@
 //! The calls of C on a session over Gx behind their pointers: each is a call on a handle, with its answer as a number.
 
 ghost use Rattle.std.specs.Prelude.{◌≡◌, option_map};
-ghost use Rattle.pcef_c.specs.GxCalls.{AgainReturns, BeginsAs, ClosesGx, EndReturns, GiveUpReturns, IsPutOctets, LeftReturns, MessageReturns, NextReturns, NoticeReturns, OpenGxReturns, RenewGxReturns, ReplyReturns, RequestReturns, SetReturns, StageReturns, kind_of, replied, requested};
+ghost use Rattle.pcef_c.specs.GxCalls.{AgainReturns, BeginsAs, ClosesGx, EndReturns, GiveUpReturns, IsPutOctets, LeftReturns, MessageReturns, NextReturns, NoticeReturns, OpenGxReturns, RenewGxReturns, ReplyReturns, RequestReturns, SetReturns, StageReturns, access_kind, replied, request_in};
 ghost use Rattle.pcef_c.specs.GxPorts.{IsEmptyPort};
-ghost use Rattle.pcef_c.specs.Named.{part_of};
+ghost use Rattle.pcef_c.specs.Named.{named_part};
 
 use crate::gx_numbers::{
-    begin_number, end_number, flag_number, go_on_number, hear_number, left_after, next_number,
-    notice_number, stage_number,
+    begin_number, end_number, go_on_number, hear_number, left_after, next_number, notice_number,
+    stage_number,
 };
 use crate::gx_port::{CLeft, GxPort, HostNames, NOTHING_LEFT, Part};
+use crate::numbers::flag_number;
 use pcef_gx_handle::{BeginRefusal, Dialogue, GxHandle, notice};
 use pcef_gx_messages::{Identity, RequestMark};
 use pcef_handle::{Handle, copy_front};
@@ -25,7 +26,7 @@ pub(crate) fn empty_port(alloc: Global) -> GxPort
 
 /// The part of a number.
 fn part_of(part: u8) -> Option<Part>
-    ensures { result ≡ part_of part }
+    ensures { result ≡ named_part part }
 {
     match part {
         0 => Some(Part::SessionId),
@@ -116,7 +117,7 @@ pub(crate) fn renew_gx(handle: &mut Handle, port: &mut GxPort) -> u8
 
 /// The kind of access event of a number, that of its event trigger.
 fn kind_of(number: u8) -> Option<AccessKind>
-    ensures { result ≡ kind_of number }
+    ensures { result ≡ access_kind number }
 {
     match number {
         2 => Some(AccessKind::RatChange),
@@ -159,7 +160,7 @@ fn reply_of(dialogue: &Option<Dialogue>) -> Option<&[u8]>
 
 /// The CCR that is out.
 fn request_of(dialogue: &Option<Dialogue>) -> Option<&[u8]>
-    ensures { option_map (λ o. o.now) result ≡ requested dialogue.now }
+    ensures { option_map (λ o. o.now) result ≡ request_in dialogue.now }
 {
     match dialogue {
         Some(dialogue) => dialogue.request(),

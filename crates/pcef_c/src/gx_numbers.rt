@@ -1,7 +1,7 @@
 //! The numbers that C gets of a session over Gx.
 
 ghost use Rattle.std.specs.Prelude.{◌≡◌};
-ghost use Rattle.pcef_c.specs.GxNumbers.{begin_number, end_number, flag_number, go_on_number, hear_number, heard_left, left_after, left_numbers, next_number, notice_number, release_left, result_left, stage_number};
+ghost use Rattle.pcef_c.specs.GxNumbers.{begin_number, end_number, go_on_number, hear_number, heard_left, left_after, left_numbers, next_number, notice_number, release_left, result_left, stage_number};
 
 use crate::gx_port::{CLeft, NOTHING_LEFT};
 use crate::numbers::open_number;
@@ -11,13 +11,6 @@ use pcef_gx_handle::{
 };
 use pcef_gx_messages::RequestKind;
 use pcef_model::Refusal;
-
-/// 1 where it is so, else 0.
-pub(crate) fn flag_number(flag: bool) -> u8
-    ensures { result ≡ flag_number flag }
-{
-    if flag { 1 } else { 0 }
-}
 
 /// 0, or why no dialogue begins: of a profile, the number that `pcef_open` has for it.
 pub(crate) fn begin_number(begun: Result<(), BeginRefusal>) -> u8

@@ -1,7 +1,7 @@
 //! Packets as C passes them, and their verdicts as C gets them.
 
 ghost use Rattle.std.specs.Prelude.{◌≡◌};
-ghost use Rattle.pcef_c.specs.Judging.{AreJudged, IsVerdictOn, bearer_of, dir_of, flag_of, flags_of, place_of, status_of, c_verdict_of};
+ghost use Rattle.pcef_c.specs.Judging.{AreJudged, IsVerdictOn, verdict_bearer, direction_by_flag, flag_of, flags_of, place_number, status_of, c_verdict_of};
 
 use crate::numbers::packet_number;
 use pcef_handle::{Handle, JudgeRefusal, Judgement};
@@ -37,7 +37,7 @@ pub struct CVerdict {
 }
 
 pub(crate) fn dir_of(up: u8) -> Dir
-    ensures { result ≡ dir_of up }
+    ensures { result ≡ direction_by_flag up }
 {
     if up == 0 { Dir::Down } else { Dir::Up }
 }
@@ -54,7 +54,7 @@ pub(crate) fn status_of(verdict: &Verdict) -> u8
 }
 
 pub(crate) fn bearer_of(verdict: &Verdict) -> u8
-    ensures { result ≡ bearer_of verdict.now }
+    ensures { result ≡ verdict_bearer verdict.now }
 {
     match verdict {
         Verdict::Passed { bearer, .. } => bearer.0,
@@ -63,7 +63,7 @@ pub(crate) fn bearer_of(verdict: &Verdict) -> u8
 }
 
 pub(crate) fn place_of(place: Option<u8>) -> u8
-    ensures { result ≡ place_of place }
+    ensures { result ≡ place_number place }
 {
     match place {
         Some(place) => place,

@@ -1,7 +1,7 @@
 //! The numbers that C gets of what a worker and its session do together.
 
 ghost use Rattle.std.specs.Prelude.{◌≡◌};
-ghost use Rattle.pcef_c.specs.Meeting.{attach_number, generation_number, left_number, meet_number, refresh_number, report_number};
+ghost use Rattle.pcef_c.specs.Meeting.{attach_number, generation_number, never_counted, meet_number, refresh_number, report_number};
 
 use pcef_handle::{AttachRefusal, MeetRefusal};
 use pcef_model::{AttachFault, FlushRefusal};
@@ -69,7 +69,7 @@ pub(crate) fn report_number(answer: Result<u64, MeetRefusal>) -> u64
 
 /// How many rows never count, or why a worker stays.
 pub(crate) fn left_number(answer: Result<u8, MeetRefusal>) -> u64
-    ensures { result ≡ left_number answer }
+    ensures { result ≡ never_counted answer }
 {
     match answer {
         Ok(rows) => u64::from(rows),

@@ -1,7 +1,7 @@
 //! The numbers that C gets.
 
 ghost use Rattle.std.specs.Prelude.{◌≡◌};
-ghost use Rattle.pcef_c.specs.Numbers.{length_number, open_number, packet_number, session_number};
+ghost use Rattle.pcef_c.specs.Numbers.{flag_number, length_number, open_number, packet_number, session_number};
 
 use pcef_handle::{CallRefusal, OpenRefusal};
 use pcef_model::OpenFault;
@@ -74,4 +74,11 @@ pub(crate) fn packet_number(fault: PacketFault) -> u8
         PacketFault::BadHeaderLength => 8,
         PacketFault::BadTotalLength => 9,
     }
+}
+
+/// 1 where it is so, else 0.
+pub(crate) fn flag_number(flag: bool) -> u8
+    ensures { result ≡ flag_number flag }
+{
+    if flag { 1 } else { 0 }
 }

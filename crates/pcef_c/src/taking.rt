@@ -1,7 +1,7 @@
 //! Packets that a worker takes, as C passes them, and their verdicts as C gets them.
 
 ghost use Rattle.std.specs.Prelude.{◌≡◌};
-ghost use Rattle.pcef_c.specs.Taking.{HasRowFor, IsTaken, IsVerdictOf, TakesAll, ends_taking, take_number, taken_verdict};
+ghost use Rattle.pcef_c.specs.Taking.{HasRowFor, IsPacketTaken, IsVerdictOf, TakesAll, ends_taking, take_number, taken_verdict};
 
 use crate::judging::{
     CPacket, CVerdict, bearer_of, dir_of, flags_of, place_of, status_of, unjudged,
@@ -52,7 +52,7 @@ fn last_verdict(worker: &WorkerHandle, place: Option<u8>) -> CVerdict
 
 /// Takes a packet.
 fn take_one(worker: &mut WorkerHandle, packet: &CPacket<'_>) -> CVerdict
-    ensures { IsTaken worker.old packet.now result worker.new }
+    ensures { IsPacketTaken worker.old packet.now result worker.new }
 {
     match worker.take(dir_of(packet.up), packet.octets, packet.whole) {
         Ok(place) => last_verdict(worker, place),

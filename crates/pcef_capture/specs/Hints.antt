@@ -23,12 +23,12 @@ link_by first octets =
     else if first == 1 then little_at octets 8
     else big_at octets 8
 
-abbrev pub link_number : List ℕ → ℕ
-link_number octets = link_by (octet_at octets 0) octets
+abbrev pub hinted_link : List ℕ → ℕ
+hinted_link octets = link_by (octet_at octets 0) octets
 
 abbrev pub link_text : List ℕ → List ℕ
 link_text octets =
-    codes "its number is " ++ (decimal (link_number octets) ++ codes ": 0, 1, 12, 14, 101, 108, 113, 228, 229 and 276 are read")
+    codes "its number is " ++ (decimal (hinted_link octets) ++ codes ": 0, 1, 12, 14, 101, 108, 113, 228, 229 and 276 are read")
 
 -- two numbers, in the order that an octet gives: 0xD4 or 0x4D where the lower octets stand first
 abbrev pub pair_by : ℕ → List ℕ → ℕ → ℕ × ℕ

@@ -2,7 +2,7 @@
 
 ghost use Rattle.std.specs.Prelude.{◌≡◌, ◌≢◌, ◌<◌, IfOk, string_bytes};
 ghost use Rattle.pcef_capture_file.specs.declared.fault.CaptureFault.TheVariants.{LinkType, NotACapture, Version};
-ghost use Rattle.pcef_capture.specs.Hints.{advice_on, big_at, link_number, link_text, little_at, octet_at, pair_at, version_of, version_text, version_with};
+ghost use Rattle.pcef_capture.specs.Hints.{advice_on, big_at, hinted_link, link_text, little_at, octet_at, pair_at, version_of, version_text, version_with};
 
 use pcef_capture_file::CaptureFault;
 use std::alloc::{AllocError, Global};
@@ -122,7 +122,7 @@ fn big_at(octets: &[u8], place: usize) -> u16
 
 /// The number of the unknown link type, from the header of a classic file or from an interface description.
 fn link_number(octets: &[u8]) -> u16
-    ensures { result ≡ link_number octets.now }
+    ensures { result ≡ hinted_link octets.now }
 {
     match octet_at(octets, 0) {
         0xd4 | 0x4d => little_at(octets, 20),

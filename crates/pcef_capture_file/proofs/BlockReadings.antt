@@ -6,7 +6,7 @@ use Rattle.pcef_capture_file.specs.Captures.{ReadsAs}
 use Rattle.pcef_capture_file.specs.Classic.{file_header_of, record_of}
 use Rattle.pcef_capture_file.specs.Laws.{OneCapture}
 use Rattle.pcef_capture_file.specs.PcapNg.{packets_among, ReadsBlocks, ReadsFile, step_of}
-use Rattle.pcef_capture_file.specs.Sections.{Standing, at_start}
+use Rattle.pcef_capture_file.specs.Sections.{SectionState, before_sections}
 use Rattle.pcef_capture_file.proofs.Readings.{read_once}
 use Rattle.pcef_capture_file.specs.Captured.{Reads}
 use Rattle.pcef_capture_file.specs.declared.classic.FileHeader.{FileHeader}
@@ -14,11 +14,11 @@ use Rattle.pcef_capture_file.specs.declared.fault.CaptureFault.{CaptureFault}
 use Rattle.pcef_capture_file.specs.declared.fault.CaptureFault.TheVariants as fault
 
 -- whatever is read of the rest is read of the file, behind the packets so far
-abbrev pub ReadSoFar : List ℕ → List Captured → Standing → List ℕ → Type 0
+abbrev pub ReadSoFar : List ℕ → List Captured → SectionState → List ℕ → Type 0
 ReadSoFar octets packets s rest =
     (found : List (Option Captured)) (fault : Option CaptureFault) → ReadsBlocks s rest found fault → ReadsFile octets (packets ++ packets_among found) fault
 
-pub none_so_far : (octets : List ℕ) → ReadSoFar octets [] at_start octets
+pub none_so_far : (octets : List ℕ) → ReadSoFar octets [] before_sections octets
 none_so_far octets found fault read = (found, read, refl)
 
 pub among-cons : (p : Option Captured) (ps : List (Option Captured)) → packets_among (p ∷ ps) ≡ packets_among (p ∷ []) ++ packets_among ps
@@ -26,7 +26,7 @@ among-cons None ps = refl
 among-cons (Some p) ps = refl
 
 -- one block more
-pub one_more : (octets : List ℕ) (packets more : List Captured) (s after : Standing) (octets_now rest : List ℕ) (p : Option Captured)
+pub one_more : (octets : List ℕ) (packets more : List Captured) (s after : SectionState) (octets_now rest : List ℕ) (p : Option Captured)
     → ReadSoFar octets packets s octets_now
     → step_of s octets_now ≡ Ok (after, (p, rest))
     → more ≡ packets ++ packets_among (p ∷ [])
@@ -38,17 +38,17 @@ one_more octets packets more s after now rest p so_far step e found fault read =
     subst (λ t. ReadsFile octets t fault) same whole
 
 -- the end of the file
-pub all_read : (octets : List ℕ) (packets : List Captured) (s : Standing) (rest : List ℕ) → ReadSoFar octets packets s rest → rest ≡ [] → ReadsFile octets packets None
+pub all_read : (octets : List ℕ) (packets : List Captured) (s : SectionState) (rest : List ℕ) → ReadSoFar octets packets s rest → rest ≡ [] → ReadsFile octets packets None
 all_read octets packets s rest so_far none = subst (λ t. ReadsFile octets t None) (append-nil packets) (so_far [] None none)
 
 -- a block at fault
-pub read_to_fault : (octets : List ℕ) (packets : List Captured) (s : Standing) (rest : List ℕ) (f : CaptureFault)
+pub read_to_fault : (octets : List ℕ) (packets : List Captured) (s : SectionState) (rest : List ℕ) (f : CaptureFault)
     → ReadSoFar octets packets s rest → 0 < length rest → step_of s rest ≡ Err f → ReadsFile octets packets (Some f)
 read_to_fault octets packets s rest f so_far some step =
     subst (λ t. ReadsFile octets t (Some f)) (append-nil packets) (so_far [] (Some f) (some, step))
 
 -- nothing isn't a block
-empty_step : (s : Standing) → step_of s [] ≡ Err fault.CutBlock
+empty_step : (s : SectionState) → step_of s [] ≡ Err fault.CutBlock
 unfolding step_of block_of
 empty_step s = refl
 
@@ -56,20 +56,20 @@ none_or_fault : (octets : List ℕ) → octets ≡ [] → 0 < length octets → 
 none_or_fault [] e some = omega (arith, some)
 none_or_fault (octet ∷ octets) e some = absurd (cc e)
 
-none_or_block : (s : Standing) (octets : List ℕ) (x : Standing × (Option Captured × List ℕ)) → octets ≡ [] → step_of s octets ≡ Ok x → ⊥
+none_or_block : (s : SectionState) (octets : List ℕ) (x : SectionState × (Option Captured × List ℕ)) → octets ≡ [] → step_of s octets ≡ Ok x → ⊥
 none_or_block s octets x e r =
     let bad : Err fault.CutBlock ≡ Ok x = sym (empty_step s) ∙ sym (ap (step_of s) e) ∙ r in
     absurd (cc bad)
 
-fault_or_block : (s : Standing) (octets : List ℕ) (x : Standing × (Option Captured × List ℕ)) (f : CaptureFault) → step_of s octets ≡ Err f → step_of s octets ≡ Ok x → ⊥
+fault_or_block : (s : SectionState) (octets : List ℕ) (x : SectionState × (Option Captured × List ℕ)) (f : CaptureFault) → step_of s octets ≡ Err f → step_of s octets ≡ Ok x → ⊥
 fault_or_block s octets x f e r = let bad : Err f ≡ Ok x = sym e ∙ r in absurd (cc bad)
 
-same_step : (r : Result (Standing × (Option Captured × List ℕ)) CaptureFault) (x y : Standing × (Option Captured × List ℕ)) → r ≡ Ok x → r ≡ Ok y → x ≡ y
+same_step : (r : Result (SectionState × (Option Captured × List ℕ)) CaptureFault) (x y : SectionState × (Option Captured × List ℕ)) → r ≡ Ok x → r ≡ Ok y → x ≡ y
 same_step r x y e h =
     let same : Ok x ≡ Ok y = sym e ∙ h in
     cc same
 
-blocks_once : (s : Standing) (octets : List ℕ) (found others : List (Option Captured)) (f g : Option CaptureFault)
+blocks_once : (s : SectionState) (octets : List ℕ) (found others : List (Option Captured)) (f g : Option CaptureFault)
     → ReadsBlocks s octets found f → ReadsBlocks s octets others g → (found ≡ others) × (f ≡ g)
 blocks_once s octets [] [] None None r q = (refl, refl)
 blocks_once s octets [] [] None (Some g) r q = absurd (none_or_fault octets r q.0)
@@ -93,7 +93,7 @@ blocks_once s octets (p ∷ ps) (o ∷ os) f g r q =
 file_once : (octets : List ℕ) (packets others : List Captured) (f g : Option CaptureFault)
     → ReadsFile octets packets f → ReadsFile octets others g → (packets ≡ others) × (f ≡ g)
 file_once octets packets others f g r q =
-    let same = blocks_once at_start octets r.0 q.0 f g r.1 q.1 in
+    let same = blocks_once before_sections octets r.0 q.0 f g r.1 q.1 in
     (r.2 ∙ ap packets_among same.0 ∙ sym q.2, same.1)
 
 records_once : (header : Result FileHeader CaptureFault) (octets : List ℕ) (packets others : List Captured) (f g : Option CaptureFault)

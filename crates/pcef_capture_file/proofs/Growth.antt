@@ -8,7 +8,7 @@ use Rattle.pcef_lists.specs.Readings.{◌>>=◌, or_fault}
 use Rattle.pcef_capture_file.specs.Blocks.{Framed, begins_section, block_front, block_in, block_of, is_block_len, len_of, most_block, order_of, section_order, total_of}
 use Rattle.pcef_capture_file.specs.Captured.{Captured, packet_front}
 use Rattle.pcef_capture_file.specs.Classic.{most_packet, record_of, recorded_len, stated_in}
-use Rattle.pcef_capture_file.specs.Numbers.{number}
+use Rattle.pcef_capture_file.specs.Numbers.{number_by}
 use Rattle.pcef_capture_file.specs.declared.classic.FileHeader.{FileHeader}
 use Rattle.pcef_capture_file.specs.declared.endianness.Endianness.{Endianness}
 use Rattle.pcef_capture_file.specs.declared.endianness.Endianness.TheVariants.{Big, Little}
@@ -32,7 +32,7 @@ behind_place o place len le = omega (arith, le, length-drop place o)
 before_place : (o : List ℕ) (place len : ℕ) → place + len ≤ length o → place ≤ length o
 before_place o place len le = omega (arith, le)
 
-pub number_more : (e : Endianness) (o more : List ℕ) (place len : ℕ) → place + len ≤ length o → number e (o ++ more) place len ≡ number e o place len
+pub number_more : (e : Endianness) (o more : List ℕ) (place len : ℕ) → place + len ≤ length o → number_by e (o ++ more) place len ≡ number_by e o place len
 number_more Big o more place len le =
     ap (big_number len) (drop-append-le place o more (before_place o place len le)) ∙ big_from-append len (drop place o) more (behind_place o place len le)
 number_more Little o more place len le =
@@ -208,10 +208,10 @@ by_tests true true c total = refl
 by_tests true false true total = refl
 by_tests true false false total = refl
 
-len_whole : (e : Endianness) (o : List ℕ) → total_of e o ≤ length o → len_of e o ≡ len_by (is_block_len (total_of e o)) (nat_lt most_block (total_of e o)) (number e o (total_of e o - 4) 4 == total_of e o) (total_of e o)
+len_whole : (e : Endianness) (o : List ℕ) → total_of e o ≤ length o → len_of e o ≡ len_by (is_block_len (total_of e o)) (nat_lt most_block (total_of e o)) (number_by e o (total_of e o - 4) 4 == total_of e o) (total_of e o)
 unfolding len_of
 len_whole e o le =
-    rw (le-ltb (length o) (total_of e o) le) (by_tests (is_block_len (total_of e o)) (nat_lt most_block (total_of e o)) (number e o (total_of e o - 4) 4 == total_of e o) (total_of e o))
+    rw (le-ltb (length o) (total_of e o) le) (by_tests (is_block_len (total_of e o)) (nat_lt most_block (total_of e o)) (number_by e o (total_of e o - 4) 4 == total_of e o) (total_of e o))
 
 end_place : (o : List ℕ) (total : ℕ) → 12 ≤ length o → total ≤ length o → total - 4 + 4 ≤ length o
 end_place o total some le = omega (arith, some, le)
@@ -276,7 +276,7 @@ in_whole e o more some le =
     let total = total_of e o in
     let a = is_block_len total in
     let b = nat_lt most_block total in
-    let c = number e o (total - 4) 4 == total in
+    let c = number_by e o (total - 4) 4 == total in
     let here = len_whole e o le in (
       ap (λ r. r >>= (λ n. Ok (block_front e (o ++ more) n))) (len_same e o more some le ∙ here)
           ∙ fronts_more e o more a b c total some le ∙ sym (ap (λ r. grown more (r >>= (λ n. Ok (block_front e o n)))) here),
@@ -397,7 +397,7 @@ len_within e o n is =
                 ]
           ]
       | inr whole ↦
-          let found = len_some (is_block_len total) (nat_lt most_block total) (number e o (total - 4) 4 == total) total n (sym (len_whole e o whole) ∙ is) in
+          let found = len_some (is_block_len total) (nat_lt most_block total) (number_by e o (total - 4) 4 == total) total n (sym (len_whole e o whole) ∙ is) in
           rw found.1 (least_of total found.0, whole)
     ]
 

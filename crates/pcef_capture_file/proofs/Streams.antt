@@ -9,8 +9,8 @@ use Rattle.pcef_capture_file.specs.Captures.{ReadsAs, ReadsClassic}
 use Rattle.pcef_capture_file.specs.Classic.{file_header_of, has_version, header_behind, link_number, magic_of, record_of}
 use Rattle.pcef_capture_file.specs.PcapNg.{packets_among, step_of, taken_of}
 use Rattle.pcef_capture_file.specs.Places.{ReadsOn, in_blocks, in_records}
-use Rattle.pcef_capture_file.specs.Sections.{Standing, at_start}
-use Rattle.pcef_capture_file.specs.Streams.{GoesOn, IsRefused, Opens, Stops}
+use Rattle.pcef_capture_file.specs.Sections.{SectionState, before_sections}
+use Rattle.pcef_capture_file.specs.Streams.{CaptureGoesOn, IsFileRefused, OpensCapture, Stops}
 use Rattle.pcef_capture_file.specs.Pauses.{block_stop, content_stop, record_stop}
 use Rattle.pcef_capture_file.specs.declared.classic.FileHeader.{FileHeader}
 use Rattle.pcef_capture_file.specs.declared.classic.TimeScale.{TimeScale}
@@ -31,7 +31,7 @@ record_grows h o rest more p is (inl cut) =
     absurd (cc bad)
 record_grows h o rest more p is (inr same) = same.0 ∙ ap (grown more) is
 
-pub record_goes : (h : FileHeader) (o rest : List ℕ) (p : Captured) → record_of h o ≡ Ok (p, rest) → GoesOn (in_records h) o (Some p) (in_records h) rest
+pub record_goes : (h : FileHeader) (o rest : List ℕ) (p : Captured) → record_of h o ≡ Ok (p, rest) → CaptureGoesOn (in_records h) o (Some p) (in_records h) rest
 record_goes h o rest p is more packets fault read = (rest ++ more, record_grows h o rest more p is (record_more h o more), read)
 
 record_bound : (h : FileHeader) (o : List ℕ) (f : CaptureFault) → record_of h o ≡ Err f → f ≢ fault.TooLong → CutsRecord h o ⊎ GrowsRecord h o [] → length o < most_block
@@ -75,15 +75,15 @@ block_bound e o is (inr same) = absurd (same.1 is)
 block_waits : (e : Endianness) (o : List ℕ) → block_of e o ≡ Err fault.CutBlock → length o < most_block
 block_waits e o is = block_bound e o is (block_more e o [])
 
-step_fault : (s : Standing) (o : List ℕ) (f : CaptureFault) → block_of s.endianness o ≡ Err f → step_of s o ≡ Err f
+step_fault : (s : SectionState) (o : List ℕ) (f : CaptureFault) → block_of s.endianness o ≡ Err f → step_of s o ≡ Err f
 unfolding step_of
 step_fault s o f is = rw is refl
 
-step_taken : (s : Standing) (o rest : List ℕ) (b : Framed) → block_of s.endianness o ≡ Ok (b, rest) → step_of s o ≡ (taken_of s b >>= (λ taken. Ok (taken.0, (taken.1, rest))))
+step_taken : (s : SectionState) (o rest : List ℕ) (b : Framed) → block_of s.endianness o ≡ Ok (b, rest) → step_of s o ≡ (taken_of s b >>= (λ taken. Ok (taken.0, (taken.1, rest))))
 unfolding step_of
 step_taken s o rest b is = rw is refl
 
-pub block_goes : (s after : Standing) (o rest : List ℕ) (b : Framed) (p : Option Captured) → block_of s.endianness o ≡ Ok (b, rest) → taken_of s b ≡ Ok (after, p) → GoesOn (in_blocks s) o p (in_blocks after) rest
+pub block_goes : (s after : SectionState) (o rest : List ℕ) (b : Framed) (p : Option Captured) → block_of s.endianness o ≡ Ok (b, rest) → taken_of s b ≡ Ok (after, p) → CaptureGoesOn (in_blocks s) o p (in_blocks after) rest
 block_goes s after o rest b p is taken more packets fault read =
     let whole = block_grows s.endianness o rest more b is (block_more s.endianness o more) in
     let step : step_of s (o ++ more) ≡ Ok (after, (p, rest ++ more)) =
@@ -91,37 +91,37 @@ block_goes s after o rest b p is taken more packets fault read =
     (p ∷ read.0, (after, rest ++ more, step, read.1), ap (λ t. packets_among (p ∷ []) ++ t) read.2 ∙ sym (among-cons p read.0))
 
 -- a fault that more octets don't change
-faults_on : (s : Standing) (o more : List ℕ) (f : CaptureFault) → 0 < length o → step_of s (o ++ more) ≡ Err f → ReadsOn (in_blocks s) (o ++ more) [] (Some f)
+faults_on : (s : SectionState) (o more : List ℕ) (f : CaptureFault) → 0 < length o → step_of s (o ++ more) ≡ Err f → ReadsOn (in_blocks s) (o ++ more) [] (Some f)
 faults_on s o more f some step = ([], (more_there o more some, step), refl)
 
-block_faults : (s : Standing) (o : List ℕ) (f : CaptureFault) → 0 < length o → block_of s.endianness o ≡ Err f → f ≢ fault.CutBlock → (more : List ℕ) → ReadsOn (in_blocks s) (o ++ more) [] (Some f)
+block_faults : (s : SectionState) (o : List ℕ) (f : CaptureFault) → 0 < length o → block_of s.endianness o ≡ Err f → f ≢ fault.CutBlock → (more : List ℕ) → ReadsOn (in_blocks s) (o ++ more) [] (Some f)
 block_faults s o f some is other more =
     faults_on s o more f some (step_fault s (o ++ more) f (block_stays s.endianness o more f is other (block_more s.endianness o more)))
 
-taken_faults : (s : Standing) (o rest : List ℕ) (b : Framed) (f : CaptureFault) → 0 < length o → block_of s.endianness o ≡ Ok (b, rest) → taken_of s b ≡ Err f → (more : List ℕ) → ReadsOn (in_blocks s) (o ++ more) [] (Some f)
+taken_faults : (s : SectionState) (o rest : List ℕ) (b : Framed) (f : CaptureFault) → 0 < length o → block_of s.endianness o ≡ Ok (b, rest) → taken_of s b ≡ Err f → (more : List ℕ) → ReadsOn (in_blocks s) (o ++ more) [] (Some f)
 taken_faults s o rest b f some is taken more =
     let whole = block_grows s.endianness o rest more b is (block_more s.endianness o more) in
     faults_on s o more f some (step_taken s (o ++ more) (rest ++ more) b whole ∙ ap (λ r. r >>= (λ t. Ok (t.0, (t.1, rest ++ more)))) taken)
 
-cut_block : (s : Standing) (o : List ℕ) → 0 < length o → block_of s.endianness o ≡ Err fault.CutBlock → ReadsOn (in_blocks s) o [] (Some fault.CutBlock)
+cut_block : (s : SectionState) (o : List ℕ) → 0 < length o → block_of s.endianness o ≡ Err fault.CutBlock → ReadsOn (in_blocks s) o [] (Some fault.CutBlock)
 cut_block s o some is = ([], (some, step_fault s o fault.CutBlock is), refl)
 
-pub block_stops : (s : Standing) (o : List ℕ) (f : CaptureFault) → 0 < length o → block_of s.endianness o ≡ Err f → Stops (in_blocks s) o (block_stop f) (in_blocks s)
+pub block_stops : (s : SectionState) (o : List ℕ) (f : CaptureFault) → 0 < length o → block_of s.endianness o ≡ Err f → Stops (in_blocks s) o (block_stop f) (in_blocks s)
 block_stops s o fault.CutBlock some is = (cut_block s o some is, block_waits s.endianness o is, refl)
 block_stops s o f some is = block_faults s o f some is (λ e. cc e)
 
-pub content_stops : (s after : Standing) (o rest : List ℕ) (b : Framed) (f : CaptureFault) → 0 < length o → block_of s.endianness o ≡ Ok (b, rest)
+pub content_stops : (s after : SectionState) (o rest : List ℕ) (b : Framed) (f : CaptureFault) → 0 < length o → block_of s.endianness o ≡ Ok (b, rest)
     → (f ≡ fault.NoMemory) ⊎ (taken_of s b ≡ Err f) → Stops (in_blocks s) o (content_stop f) (in_blocks after)
 content_stops s after o rest b fault.NoMemory some is why = tt
 content_stops s after o rest b f some is (inl bad) = absurd (cc bad)
 content_stops s after o rest b f some is (inr taken) = taken_faults s o rest b f some is taken
 
 -- ---- the front
-as_blocks : (begins : Bool) (o : List ℕ) (packets : List Captured) (fault : Option CaptureFault) → begins ≡ true → ReadsOn (in_blocks at_start) o packets fault → ReadsAs begins o packets fault
+as_blocks : (begins : Bool) (o : List ℕ) (packets : List Captured) (fault : Option CaptureFault) → begins ≡ true → ReadsOn (in_blocks before_sections) o packets fault → ReadsAs begins o packets fault
 as_blocks true o packets fault is read = read
 as_blocks false o packets fault is read = absurd (cc is)
 
-pub opens_blocks : (o : List ℕ) → begins_section o ≡ true → Opens o (in_blocks at_start) o
+pub opens_blocks : (o : List ℕ) → begins_section o ≡ true → OpensCapture o (in_blocks before_sections) o
 opens_blocks o is more packets fault read =
     as_blocks (begins_section (o ++ more)) (o ++ more) packets fault (begins_more o more (begins_some o is) ∙ is) read
 
@@ -153,11 +153,11 @@ as_records false o packets fault is read = read
 classic_read : (h : FileHeader) (o : List ℕ) (packets : List Captured) (fault : Option CaptureFault) → file_header_of o ≡ Ok h → Reads (record_of h) (drop 24 o) packets fault → ReadsClassic o packets fault
 classic_read h o packets fault is read = rw is read
 
-pub opens_records : (h : FileHeader) (o : List ℕ) → begins_section o ≡ false → file_header_of o ≡ Ok h → 24 ≤ length o → Opens o (in_records h) (drop 24 o)
+pub opens_records : (h : FileHeader) (o : List ℕ) → begins_section o ≡ false → file_header_of o ≡ Ok h → 24 ≤ length o → OpensCapture o (in_records h) (drop 24 o)
 opens_records h o not header le more packets fault read =
     as_records (begins_section (o ++ more)) (o ++ more) packets fault (begins_more o more (omega (arith, le)) ∙ not)
     (classic_read h (o ++ more) packets fault (header_more o more le ∙ header) (subst (λ t. Reads (record_of h) t packets fault) (sym (drop-append-le 24 o more le)) read))
 
-pub refused_on : (o more : List ℕ) (f : CaptureFault) → begins_section o ≡ false → file_header_of o ≡ Err f → 24 ≤ length o → IsRefused (o ++ more) f
+pub refused_on : (o more : List ℕ) (f : CaptureFault) → begins_section o ≡ false → file_header_of o ≡ Err f → 24 ≤ length o → IsFileRefused (o ++ more) f
 refused_on o more f not header le =
     (λ is. absurd (cc (is, begins_more o more (omega (arith, le)) ∙ not)), header_more o more le ∙ header)

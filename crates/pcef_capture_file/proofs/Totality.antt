@@ -6,7 +6,7 @@ use Rattle.pcef_capture_file.specs.Captured.{Captured, Reads}
 use Rattle.pcef_capture_file.specs.Classic.{record_of}
 use Rattle.pcef_capture_file.specs.PcapNg.{ReadsBlocks, packets_among, step_of, taken_of}
 use Rattle.pcef_capture_file.specs.Places.{Place, ReadsOn, in_blocks, in_records}
-use Rattle.pcef_capture_file.specs.Sections.{Standing}
+use Rattle.pcef_capture_file.specs.Sections.{SectionState}
 use Rattle.pcef_capture_file.specs.declared.classic.FileHeader.{FileHeader}
 use Rattle.pcef_capture_file.specs.declared.fault.CaptureFault.{CaptureFault}
 use Rattle.pcef_capture_file.proofs.Growth.{block_behind, record_behind}
@@ -34,36 +34,36 @@ records_there (suc n) h (x ∷ o) le =
     record_there h (x ∷ o) n (record_of h (x ∷ o)) refl (omega arith) le (λ rest fits. records_there n h rest fits)
 
 -- ---- blocks
-abbrev BlocksThere : Standing → List ℕ → Type 0
+abbrev BlocksThere : SectionState → List ℕ → Type 0
 BlocksThere s o = (found : List (Option Captured)) × (fault : Option CaptureFault) × ReadsBlocks s o found fault
 
-taken_rest : (t : Result (Standing × Option Captured) CaptureFault) (rest : List ℕ) (x : Standing × (Option Captured × List ℕ))
+taken_rest : (t : Result (SectionState × Option Captured) CaptureFault) (rest : List ℕ) (x : SectionState × (Option Captured × List ℕ))
     → (t >>= (λ taken. Ok (taken.0, (taken.1, rest)))) ≡ Ok x → x.1.1 ≡ rest
 taken_rest (Err f) rest x is = absurd (cc is)
 taken_rest (Ok taken) rest x is =
     let same : (taken.0, (taken.1, rest)) ≡ x = cc is in
     sym (ap (λ y. y.1.1) same)
 
-block_rest : (s : Standing) (o : List ℕ) (r : Result (Framed × List ℕ) CaptureFault) (x : Standing × (Option Captured × List ℕ)) → block_of s.endianness o ≡ r
+block_rest : (s : SectionState) (o : List ℕ) (r : Result (Framed × List ℕ) CaptureFault) (x : SectionState × (Option Captured × List ℕ)) → block_of s.endianness o ≡ r
     → (r >>= (λ found. taken_of s found.0 >>= (λ taken. Ok (taken.0, (taken.1, found.1))))) ≡ Ok x → (n : ℕ) × (0 < n) × (n ≤ length o) × (x.1.1 ≡ drop n o)
 block_rest s o (Err f) x block is = absurd (cc is)
 block_rest s o (Ok found) x block is =
     let behind = block_behind s.endianness o found.1 found.0 block in
     (behind.0, behind.1, behind.2, taken_rest (taken_of s found.0) found.1 x is ∙ behind.3)
 
-step_rest : (s : Standing) (o : List ℕ) (x : Standing × (Option Captured × List ℕ)) → step_of s o ≡ Ok x → (n : ℕ) × (0 < n) × (n ≤ length o) × (x.1.1 ≡ drop n o)
+step_rest : (s : SectionState) (o : List ℕ) (x : SectionState × (Option Captured × List ℕ)) → step_of s o ≡ Ok x → (n : ℕ) × (0 < n) × (n ≤ length o) × (x.1.1 ≡ drop n o)
 unfolding step_of
 step_rest s o x is = block_rest s o (block_of s.endianness o) x refl is
 
-block_there : (s : Standing) (o : List ℕ) (n : ℕ) (r : Result (Standing × (Option Captured × List ℕ)) CaptureFault) → step_of s o ≡ r → 0 < length o → length o ≤ suc n
-    → ((after : Standing) (rest : List ℕ) → length rest ≤ n → BlocksThere after rest) → BlocksThere s o
+block_there : (s : SectionState) (o : List ℕ) (n : ℕ) (r : Result (SectionState × (Option Captured × List ℕ)) CaptureFault) → step_of s o ≡ r → 0 < length o → length o ≤ suc n
+    → ((after : SectionState) (rest : List ℕ) → length rest ≤ n → BlocksThere after rest) → BlocksThere s o
 block_there s o n (Err f) is some le others = ([], Some f, (some, is))
 block_there s o n (Ok x) is some le others =
     let behind = step_rest s o x is in
     let rest = others x.0 x.1.1 (fewer o x.1.1 behind.0 n behind.1 behind.2 behind.3 le) in
     (x.1.0 ∷ rest.0, rest.1, (x.0, x.1.1, is, rest.2))
 
-blocks_there : (n : ℕ) (s : Standing) (o : List ℕ) → length o ≤ n → BlocksThere s o
+blocks_there : (n : ℕ) (s : SectionState) (o : List ℕ) → length o ≤ n → BlocksThere s o
 blocks_there n s [] le = ([], None, refl)
 blocks_there zero s (x ∷ o) le = absurd (omega (arith, le))
 blocks_there (suc n) s (x ∷ o) le =

@@ -1,7 +1,7 @@
 -- Blocks of a pcapng file (draft-ietf-opsawg-pcapng, clauses 3.1 and 4.1).
 use Rattle.std.specs.Prelude.{ℕ, ◌-◌, ◌%◌, ◌==◌, ◌&&◌, nat_le, nat_lt, Bool, List, length, take, drop, Option, Some, None, Result, Ok, Err, if◌then◌else◌}
 use Rattle.pcef_lists.specs.Readings.{◌>>=◌, or_fault}
-use Rattle.pcef_capture_file.specs.Numbers.{number}
+use Rattle.pcef_capture_file.specs.Numbers.{number_by}
 use Rattle.pcef_capture_file.specs.declared.blocks.Block.{Block}
 use Rattle.pcef_capture_file.specs.declared.endianness.Endianness.{Endianness}
 use Rattle.pcef_capture_file.specs.declared.endianness.Endianness.TheVariants.{Big, Little}
@@ -19,13 +19,13 @@ framed block = record { endianness = block.endianness; kind = block.kind; body =
 
 -- a section header begins with 0x0A0D0D0A, which is the same in both orders
 unfoldable pub begins_section : List ℕ → Bool
-begins_section octets = nat_le 4 (length octets) && (number Big octets 0 4 == 168627466)
+begins_section octets = nat_le 4 (length octets) && (number_by Big octets 0 4 == 168627466)
 
 -- its octets 8 to 11 are 0x1A2B3C4D, in the order of the section
 unfoldable pub section_order : List ℕ → Option Endianness
 section_order octets =
-    if number Big octets 8 4 == 439041101 then Some Big
-    else if number Little octets 8 4 == 439041101 then Some Little
+    if number_by Big octets 8 4 == 439041101 then Some Big
+    else if number_by Little octets 8 4 == 439041101 then Some Little
     else None
 
 -- every other block has the order of the section that it stands in
@@ -35,7 +35,7 @@ order_of e octets = if begins_section octets then or_fault fault.ByteOrder (sect
 -- octets 4 to 7 are the length of the whole block, which is a multiple of four and counts the 12 octets
 -- round the body
 unfoldable pub total_of : Endianness → List ℕ → ℕ
-total_of e octets = number e octets 4 4
+total_of e octets = number_by e octets 4 4
 
 unfoldable pub is_block_len : ℕ → Bool
 is_block_len total = nat_le 12 total && (total % 4 == 0)
@@ -50,14 +50,14 @@ len_of e octets =
     if is_block_len (total_of e octets)
     then if nat_lt most_block (total_of e octets) then Err fault.TooLong
     else if nat_lt (length octets) (total_of e octets) then Err fault.CutBlock
-    else if number e octets (total_of e octets - 4) 4 == total_of e octets then Ok (total_of e octets)
+    else if number_by e octets (total_of e octets - 4) 4 == total_of e octets then Ok (total_of e octets)
     else Err fault.BlockLength
     else Err fault.BlockLength
 
 -- the block of this length, and what stands behind it: its first four octets are its type
 unfoldable pub block_front : Endianness → List ℕ → ℕ → Framed × List ℕ
 block_front e octets total =
-    (record { endianness = e; kind = number e octets 0 4; body = take (total - 12) (drop 8 octets) }, drop total octets)
+    (record { endianness = e; kind = number_by e octets 0 4; body = take (total - 12) (drop 8 octets) }, drop total octets)
 
 unfoldable pub block_in : Endianness → List ℕ → Result (Framed × List ℕ) CaptureFault
 block_in e octets = len_of e octets >>= (λ total. Ok (block_front e octets total))

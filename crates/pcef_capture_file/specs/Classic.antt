@@ -3,7 +3,7 @@ use Rattle.std.specs.Prelude.{ℕ, ◌%◌, ◌^◌, ◌==◌, ◌&&◌, nat_lt,
 use Rattle.pcef_lists.specs.Readings.{◌>>=◌, or_fault}
 use Rattle.pcef_capture_file.specs.Captured.{Captured, packet_front}
 use Rattle.pcef_capture_file.specs.Links.{link_of}
-use Rattle.pcef_capture_file.specs.Numbers.{number}
+use Rattle.pcef_capture_file.specs.Numbers.{number_by}
 use Rattle.pcef_capture_file.specs.Times.{classic_time}
 use Rattle.pcef_capture_file.specs.declared.classic.FileHeader.{FileHeader}
 use Rattle.pcef_capture_file.specs.declared.classic.TimeScale.{TimeScale}
@@ -18,19 +18,19 @@ use Rattle.pcef_capture_file.specs.declared.packet.Stated.{Stated}
 unfoldable pub magic_of : List ℕ → Option (Endianness × TimeScale)
 magic_of octets =
     if nat_lt (length octets) 4 then None
-    else if number Big octets 0 4 == 2712847316 then Some (Big, Microseconds)
-    else if number Big octets 0 4 == 2712812621 then Some (Big, Nanoseconds)
-    else if number Little octets 0 4 == 2712847316 then Some (Little, Microseconds)
-    else if number Little octets 0 4 == 2712812621 then Some (Little, Nanoseconds)
+    else if number_by Big octets 0 4 == 2712847316 then Some (Big, Microseconds)
+    else if number_by Big octets 0 4 == 2712812621 then Some (Big, Nanoseconds)
+    else if number_by Little octets 0 4 == 2712847316 then Some (Little, Microseconds)
+    else if number_by Little octets 0 4 == 2712812621 then Some (Little, Nanoseconds)
     else None
 
 -- the version stands in octets 4 to 7, two numbers
 unfoldable pub has_version : Endianness → List ℕ → Bool
-has_version e octets = (number e octets 4 2 == 2) && (number e octets 6 2 == 4)
+has_version e octets = (number_by e octets 4 2 == 2) && (number_by e octets 6 2 == 4)
 
 -- the link type is the lower half of octets 20 to 23
 unfoldable pub link_number : Endianness → List ℕ → ℕ
-link_number e octets = number e octets 20 4 % 2 ^ 16
+link_number e octets = number_by e octets 20 4 % 2 ^ 16
 
 unfoldable pub header_behind : Endianness → TimeScale → List ℕ → Result FileHeader CaptureFault
 header_behind e scale octets =
@@ -44,14 +44,14 @@ file_header_of octets = or_fault fault.NotACapture (magic_of octets) >>= (λ mag
 
 -- octets 8 to 11 of a record's header are the length of the packet behind it
 unfoldable pub recorded_len : Endianness → List ℕ → ℕ
-recorded_len e octets = number e octets 8 4
+recorded_len e octets = number_by e octets 8 4
 
 -- octets 0 to 3 are the seconds of its time, octets 4 to 7 the fraction beside them, and octets 12 to 15 the length that
 -- the packet had on the line
 unfoldable pub stated_in : FileHeader → List ℕ → Stated
 stated_in header octets = record {
-  original = number header.endianness octets 12 4;
-  time = Some (classic_time header.scale (number header.endianness octets 0 4) (number header.endianness octets 4 4));
+  original = number_by header.endianness octets 12 4;
+  time = Some (classic_time header.scale (number_by header.endianness octets 0 4) (number_by header.endianness octets 4 4));
 }
 
 -- the most octets of a packet: as many as tcpdump ever records of one, and a longer one is no packet to it either

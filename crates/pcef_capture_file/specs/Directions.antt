@@ -16,5 +16,5 @@ way_of ue header =
     else if is_assigned header.dst ue then Some Down
     else None
 
-unfoldable pub direction_in : Addr → List ℕ → Result (Option Dir) PacketFault
-direction_in ue octets = header_of Up octets >>= (λ header. Ok (way_of ue header))
+unfoldable pub direction_of_packet : Addr → List ℕ → Result (Option Dir) PacketFault
+direction_of_packet ue octets = header_of Up octets >>= (λ header. Ok (way_of ue header))

@@ -4,6 +4,6 @@ use Rattle.pcef_capture_file.specs.Sections.{standing}
 use Rattle.pcef_capture_file.specs.declared.stream.Format.{Format}
 use Rattle.pcef_capture_file.specs.declared.stream.Format.TheVariants.{Classic, PcapNg}
 
-abbrev pub place_of : Format → Place
-place_of (Classic header) = in_records header
-place_of (PcapNg section) = in_blocks (standing section)
+abbrev pub first_place : Format → Place
+first_place (Classic header) = in_records header
+first_place (PcapNg section) = in_blocks (standing section)

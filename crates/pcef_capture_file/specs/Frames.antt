@@ -1,14 +1,14 @@
 -- Where the packet stands in a frame.
 use Rattle.std.specs.Prelude.{ℕ, ◌+◌, ◌==◌, ◌&&◌, ◌||◌, nat_le, Bool, List, length, drop, Option, Some, None, if◌then◌else◌}
-use Rattle.pcef_capture_file.specs.Numbers.{number}
+use Rattle.pcef_capture_file.specs.Numbers.{number_by}
 use Rattle.pcef_capture_file.specs.declared.endianness.Endianness.{Endianness}
 use Rattle.pcef_capture_file.specs.declared.endianness.Endianness.TheVariants.{Big}
 use Rattle.pcef_capture_file.specs.declared.link.Link.{Link}
 use Rattle.pcef_capture_file.specs.declared.link.Link.TheVariants.{Null, Ethernet, Raw, Loop, LinuxCooked, LinuxCooked2}
 
--- a number of two octets stands at a place
+-- a number_by of two octets stands at a place
 unfoldable pub is_type_at : List ℕ → ℕ → ℕ → Bool
-is_type_at octets place n = nat_le (place + 2) (length octets) && (number Big octets place 2 == n)
+is_type_at octets place n = nat_le (place + 2) (length octets) && (number_by Big octets place 2 == n)
 
 -- a VLAN tag begins there: 0x8100 for customers, 0x88A8 for providers (IEEE 802.1Q, clause 9.5), 0x9100 of old
 unfoldable pub is_tag_at : List ℕ → ℕ → Bool
@@ -40,7 +40,7 @@ is_ip_family family = (family == 2) || ((family == 24) || ((family == 28) || (fa
 
 -- a packet behind its protocol family
 unfoldable pub behind_family : Endianness → List ℕ → Option (List ℕ)
-behind_family e octets = if nat_le 4 (length octets) && is_ip_family (number e octets 0 4) then behind octets 4 else None
+behind_family e octets = if nat_le 4 (length octets) && is_ip_family (number_by e octets 0 4) then behind octets 4 else None
 
 -- The type stands behind two addresses of six octets in Ethernet, at octets 14 and 15 of the first cooked
 -- header, and in front of the second one, which has 20 octets (the pages of link types 1, 113 and 276 there).

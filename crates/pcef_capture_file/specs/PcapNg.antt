@@ -3,20 +3,20 @@ use Rattle.std.specs.Prelude.{◌≡◌, ◌<◌, ℕ, List, [], ◌∷◌, leng
 use Rattle.std.specs.List.{filter_map}
 use Rattle.pcef_lists.specs.Readings.{◌>>=◌}
 use Rattle.pcef_capture_file.specs.Blocks.{block_of, Framed}
-use Rattle.pcef_capture_file.specs.BlockPackets.{packet_of}
+use Rattle.pcef_capture_file.specs.BlockPackets.{block_packet}
 use Rattle.pcef_capture_file.specs.Captured.{Captured}
-use Rattle.pcef_capture_file.specs.Sections.{Standing, at_start, section_after}
+use Rattle.pcef_capture_file.specs.Sections.{SectionState, before_sections, section_after}
 use Rattle.pcef_capture_file.specs.declared.fault.CaptureFault.{CaptureFault}
 
 -- how the section stands behind a block, and the packet in the block
-unfoldable pub taken_of : Standing → Framed → Result (Standing × Option Captured) CaptureFault
+unfoldable pub taken_of : SectionState → Framed → Result (SectionState × Option Captured) CaptureFault
 taken_of s block =
     section_after s block
-    >>= (λ after. packet_of s.interfaces block
+    >>= (λ after. block_packet s.interfaces block
     >>= (λ packet. Ok (after, packet)))
 
 -- the same of the block at the front, and the octets behind it
-unfoldable pub step_of : Standing → List ℕ → Result (Standing × (Option Captured × List ℕ)) CaptureFault
+unfoldable pub step_of : SectionState → List ℕ → Result (SectionState × (Option Captured × List ℕ)) CaptureFault
 step_of s octets =
     block_of s.endianness octets
     >>= (λ found. taken_of s found.0
@@ -24,11 +24,11 @@ step_of s octets =
 
 -- The octets are blocks one after another, with these packets or none in them: up to the end where there is
 -- no fault, else up to a block at fault.
-abbrev pub ReadsBlocks : Standing → List ℕ → List (Option Captured) → Option CaptureFault → Type 0
+abbrev pub ReadsBlocks : SectionState → List ℕ → List (Option Captured) → Option CaptureFault → Type 0
 ReadsBlocks s octets [] None = octets ≡ []
 ReadsBlocks s octets [] (Some fault) = (0 < length octets) × (step_of s octets ≡ Err fault)
 ReadsBlocks s octets (found ∷ others) fault =
-    (after : Standing) × (rest : List ℕ) × (step_of s octets ≡ Ok (after, (found, rest))) × ReadsBlocks after rest others fault
+    (after : SectionState) × (rest : List ℕ) × (step_of s octets ≡ Ok (after, (found, rest))) × ReadsBlocks after rest others fault
 
 -- the packets of those blocks that have one
 abbrev pub packets_among : List (Option Captured) → List Captured
@@ -36,4 +36,4 @@ packets_among found = filter_map (λ packet. packet) found
 
 abbrev pub ReadsFile : List ℕ → List Captured → Option CaptureFault → Type 0
 ReadsFile octets packets fault =
-    (found : List (Option Captured)) × ReadsBlocks at_start octets found fault × (packets ≡ packets_among found)
+    (found : List (Option Captured)) × ReadsBlocks before_sections octets found fault × (packets ≡ packets_among found)

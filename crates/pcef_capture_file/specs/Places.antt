@@ -3,14 +3,14 @@ use Rattle.std.specs.Prelude.{◌≡◌, ℕ, List, Option}
 use Rattle.pcef_capture_file.specs.Captured.{Captured, Reads}
 use Rattle.pcef_capture_file.specs.Classic.{record_of}
 use Rattle.pcef_capture_file.specs.PcapNg.{ReadsBlocks, packets_among}
-use Rattle.pcef_capture_file.specs.Sections.{Standing}
+use Rattle.pcef_capture_file.specs.Sections.{SectionState}
 use Rattle.pcef_capture_file.specs.declared.classic.FileHeader.{FileHeader}
 use Rattle.pcef_capture_file.specs.declared.fault.CaptureFault.{CaptureFault}
 
 -- among the records behind the header of a classic file, or among the blocks of a pcapng file
 pub data Place : Type 0 where
   in_records : FileHeader → Place
-  in_blocks : Standing → Place
+  in_blocks : SectionState → Place
 
 -- from here on the octets have these packets, up to their end or to this fault
 abbrev pub ReadsOn : Place → List ℕ → List Captured → Option CaptureFault → Type 0

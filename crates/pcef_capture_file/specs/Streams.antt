@@ -16,20 +16,20 @@ StandsBehind octets rest = (taken : ℕ) × (rest ≡ drop taken octets)
 
 -- ---- the front of a capture
 -- the header of a classic file is at fault, so the file has no packets
-abbrev pub IsRefused : List ℕ → CaptureFault → Type 0
-IsRefused octets fault = (¬ IsTrue (begins_section octets)) × (file_header_of octets ≡ Err fault)
+abbrev pub IsFileRefused : List ℕ → CaptureFault → Type 0
+IsFileRefused octets fault = (¬ IsTrue (begins_section octets)) × (file_header_of octets ≡ Err fault)
 
 -- whatever follows, what is read behind the front is what the capture has
-abbrev pub Opens : List ℕ → Place → List ℕ → Type 0
-Opens octets place rest =
+abbrev pub OpensCapture : List ℕ → Place → List ℕ → Type 0
+OpensCapture octets place rest =
     (more : List ℕ) (packets : List Captured) (fault : Option CaptureFault)
     → ReadsOn place (rest ++ more) packets fault
     → ReadsCapture (octets ++ more) packets fault
 
 -- ---- a record or a block
 -- whatever follows, a packet or none stands here, and then what is read behind it
-abbrev pub GoesOn : Place → List ℕ → Option Captured → Place → List ℕ → Type 0
-GoesOn before octets packet after rest =
+abbrev pub CaptureGoesOn : Place → List ℕ → Option Captured → Place → List ℕ → Type 0
+CaptureGoesOn before octets packet after rest =
     (more : List ℕ) (packets : List Captured) (fault : Option CaptureFault)
     → ReadsOn after (rest ++ more) packets fault
     → ReadsOn before (octets ++ more) (packets_among (packet ∷ []) ++ packets) fault

@@ -2,7 +2,7 @@
 
 ghost use Rattle.std.specs.Prelude.{◌≡◌, ◌+◌, ◌≤◌, IfErr, IfOk, Ok as DueOk, Err as DueErr, length, option_map};
 ghost use Rattle.pcef_capture_file.specs.Blocks.{framed};
-ghost use Rattle.pcef_capture_file.specs.BlockPackets.{behind_lengths, enhanced_in, interface_at, obsolete_in, packet_in, packet_of, simple_in, snapped, units_in};
+ghost use Rattle.pcef_capture_file.specs.BlockPackets.{behind_lengths, enhanced_in, interface_at, obsolete_in, packet_in, block_packet, simple_in, snapped, units_in};
 ghost use Rattle.pcef_capture_file.specs.Captured.{captured};
 
 use crate::blocks::Block;
@@ -146,15 +146,15 @@ fn simple_in<'a>(interfaces: &[Interface], block: &Block<'a>) -> Result<Packet<'
 
 /// The packet of a block, if its type is one of those with packets; else `BlockLength`,
 /// `UnknownInterface` or `CutPacket`.
-#[tactic(auto, unfolding(crate::specs::BlockPackets::packet_of))]
+#[tactic(auto, unfolding(crate::specs::BlockPackets::block_packet))]
 pub(crate) fn packet_of<'a>(
     interfaces: &[Interface],
     block: &Block<'a>,
 ) -> Result<Option<Packet<'a>>, CaptureFault>
     ensures packet { IfOk result (λ packet.
-        packet_of interfaces.now (framed block.now) ≡ DueOk (option_map captured packet)) }
+        block_packet interfaces.now (framed block.now) ≡ DueOk (option_map captured packet)) }
     ensures fault { IfErr result (λ fault.
-        packet_of interfaces.now (framed block.now) ≡ DueErr fault) }
+        block_packet interfaces.now (framed block.now) ≡ DueErr fault) }
 {
     let read = match block.kind {
         ENHANCED_PACKET => enhanced_in(interfaces, block),

@@ -1,7 +1,7 @@
 //! Why a capture file is refused, or read no further.
 
 ghost use Rattle.std.specs.Prelude.{◌≡◌};
-ghost use Rattle.pcef_capture_file.specs.Faults.{fault_number};
+ghost use Rattle.pcef_capture_file.specs.Faults.{capture_fault_number};
 
 use std::error::Error;
 use std::fmt::{self, Display, Formatter, Write};
@@ -70,7 +70,7 @@ impl Error for CaptureFault {}
 impl CaptureFault {
     /// The number by which programs report it, from 1 on.
     pub fn number(self) -> u8
-        ensures { result ≡ fault_number self }
+        ensures { result ≡ capture_fault_number self }
     {
         match self {
             CaptureFault::NotACapture => 1,

@@ -5,7 +5,7 @@ ghost use Rattle.pcef_capture_file.specs.Captured.{captured};
 ghost use Rattle.pcef_capture_file.specs.Places.{in_blocks, in_records};
 ghost use Rattle.pcef_capture_file.specs.Sections.{standing};
 ghost use Rattle.pcef_capture_file.specs.Pauses.{block_stop, content_stop, record_stop};
-ghost use Rattle.pcef_capture_file.specs.Streams.{GoesOn, IsRefused, Opens, StandsBehind, Stops};
+ghost use Rattle.pcef_capture_file.specs.Streams.{CaptureGoesOn, IsFileRefused, OpensCapture, StandsBehind, Stops};
 
 use crate::blocks::{begins_section, read_block};
 use crate::classic::{FILE_HEADER_LEN, FileHeader, read_file_header, read_record};
@@ -39,9 +39,9 @@ impl Model for CaptureStream {
 
     ghost Value = { Place };
 
-    ghost use Rattle.pcef_capture_file.specs.Formats.{place_of};
+    ghost use Rattle.pcef_capture_file.specs.Formats.{first_place};
 
-    ghost view = { λ s. place_of s.format };
+    ghost view = { λ s. first_place s.format };
 }
 
 /// Why reading stops at the fault of a record, where more octets may follow.
@@ -76,7 +76,7 @@ fn content_stop(fault: CaptureFault) -> Stop
 
 /// The packet of the record at the front, and the octets behind the record.
 fn next_record<'a>(header: FileHeader, octets: &'a [u8]) -> Result<(Packet<'a>, &'a [u8]), Stop>
-    ensures goes_on { IfOk result (λ found. GoesOn (in_records header) octets.now
+    ensures goes_on { IfOk result (λ found. CaptureGoesOn (in_records header) octets.now
         (Some (captured found.0)) (in_records header) found.1.now) }
     ensures shorter { IfOk result (λ found. length found.1.now < length octets.now) }
     ensures behind { IfOk result (λ found. StandsBehind octets.now found.1.now) }
@@ -97,7 +97,7 @@ fn next_block<'a>(
     section: &mut Section,
     octets: &'a [u8],
 ) -> Result<(Option<Packet<'a>>, &'a [u8]), Stop>
-    ensures goes_on { IfOk result (λ found. GoesOn (in_blocks (standing section.old)) octets.now
+    ensures goes_on { IfOk result (λ found. CaptureGoesOn (in_blocks (standing section.old)) octets.now
         (option_map captured found.0) (in_blocks (standing section.new)) found.1.now) }
     ensures shorter { IfOk result (λ found. length found.1.now < length octets.now) }
     ensures behind { IfOk result (λ found. StandsBehind octets.now found.1.now) }
@@ -126,11 +126,11 @@ impl CaptureStream {
         alloc: Global,
         octets: &'a [u8],
     ) -> Result<(CaptureStream, &'a [u8]), CaptureFault>
-        ensures opens { IfOk result (λ found. Opens octets.now found.0 found.1.now) }
+        ensures opens { IfOk result (λ found. OpensCapture octets.now found.0 found.1.now) }
         ensures behind { IfOk result (λ found. StandsBehind octets.now found.1.now) }
-        ensures refused { IfErr result (λ fault. IsRefused octets.now fault) }
+        ensures refused { IfErr result (λ fault. IsFileRefused octets.now fault) }
         ensures lasting { IfErr result (λ fault. (more : List ℕ) → 24 ≤ length octets.now
-            → IsRefused (octets.now ++ more) fault) }
+            → IsFileRefused (octets.now ++ more) fault) }
     {
         if begins_section(octets) {
             let format = Format::PcapNg(Section {
@@ -152,7 +152,7 @@ impl CaptureStream {
     /// octets behind it, or why nothing was read. Takes memory for the interfaces of a pcapng file.
     pub fn step<'a>(&mut self, octets: &'a [u8]) -> Result<(Option<Packet<'a>>, &'a [u8]), Stop>
         ensures goes_on { IfOk result (λ found.
-            GoesOn self.old octets.now (option_map captured found.0) self.new found.1.now) }
+            CaptureGoesOn self.old octets.now (option_map captured found.0) self.new found.1.now) }
         ensures shorter { IfOk result (λ found. length found.1.now < length octets.now) }
         ensures behind { IfOk result (λ found. StandsBehind octets.now found.1.now) }
         ensures stops { IfErr result (λ stop. Stops self.old octets.now stop self.new) }

@@ -8,7 +8,7 @@ use Rattle.pcef_capture_file.specs.Captured.{Captured}
 use Rattle.pcef_capture_script.specs.Fates.{AreFates, Fate, items_of}
 use Rattle.pcef_capture_script.specs.Scripts.{Rota, last_flush, script_of}
 use Rattle.pcef_capture_script.specs.Turns.{WroteFrameFront, WroteSoFar, lines_if, rest_flush, turn_past}
-use Rattle.pcef_capture_script.specs.Writing.{WritesFront, WritesTakes}
+use Rattle.pcef_capture_script.specs.Writing.{WritesScriptFront, WritesTakes}
 use Rattle.pcef_capture_script.specs.declared.counts.Counts.{Counts}
 use Rattle.pcef_capture_script.specs.declared.turn.Turn.{Turn}
 use Rattle.pcef_writing.specs.Writing.{AppendsFront}
@@ -33,7 +33,7 @@ pub frame_front : (ue : Addr) (pads : Bool) (rota : Rota) (frames rest all : Lis
     → WroteSoFar ue pads rota frames old now turn counts
     → WroteFrameFront ue pads frame turn now next
     → all ≡ frames ++ frame ∷ rest
-    → WritesFront ue pads rota all old next
+    → WritesScriptFront ue pads rota all old next
 frame_front ue pads rota frames rest all frame old now next turn counts so_far wrote whole =
     let fates = so_far.0 in
     let fate = wrote.0 in
@@ -56,7 +56,7 @@ frame_front ue pads rota frames rest all frame old now next turn counts so_far w
 pub rest_front : (ue : Addr) (pads : Bool) (rota : Rota) (frames : List Captured) (old now next : Option (List ℕ)) (turn : Turn) (counts : Counts)
     → WroteSoFar ue pads rota frames old now turn counts
     → AppendsFront now next (rest_flush turn)
-    → WritesFront ue pads rota frames old next
+    → WritesScriptFront ue pads rota frames old next
 rest_front ue pads rota frames old now next turn counts so_far wrote =
     let text = lines_from rota 0 (items_of so_far.0) in (
       so_far.0,
@@ -67,7 +67,7 @@ rest_front ue pads rota frames old now next turn counts so_far wrote =
 -- what was written so far is a front of the script for these frames and any behind them
 pub so_far_front : (ue : Addr) (pads : Bool) (rota : Rota) (frames rest : List Captured) (old now : Option (List ℕ)) (turn : Turn) (counts : Counts)
     → WroteSoFar ue pads rota frames old now turn counts
-    → WritesFront ue pads rota (frames ++ rest) old now
+    → WritesScriptFront ue pads rota (frames ++ rest) old now
 so_far_front ue pads rota frames rest old now turn counts so_far =
     let fates = so_far.0 in
     let others = fates_there ue pads rest in

@@ -10,17 +10,17 @@ use Rattle.pcef_capture_file.specs.Captured.{Captured}
 use Rattle.pcef_capture_file.specs.Captures.{ReadsCapture}
 use Rattle.pcef_capture_file.specs.PcapNg.{packets_among}
 use Rattle.pcef_capture_file.specs.Places.{Place, ReadsOn}
-use Rattle.pcef_capture_file.specs.Streams.{GoesOn, StandsBehind, Stops}
+use Rattle.pcef_capture_file.specs.Streams.{CaptureGoesOn, StandsBehind, Stops}
 use Rattle.pcef_capture_file.specs.declared.fault.CaptureFault.{CaptureFault}
 use Rattle.pcef_capture_file.specs.declared.stop.Stop.{Stop}
 use Rattle.pcef_capture_file.specs.declared.stop.Stop.TheVariants as stop
 use Rattle.pcef_capture_file.proofs.Totality.{reads_there}
 use Rattle.pcef_writing.specs.Writing.{AppendsFront}
-use Rattle.pcef_capture_script.specs.Progress.{FailsInFront, FailsToRead, IsAfter, IsWriteEnd, Paused, Reached, WroteFront}
+use Rattle.pcef_capture_script.specs.Progress.{FailsInFront, FailsToRead, IsWrittenAfter, IsWriteEnd, Paused, Reached, WroteLinesFront}
 use Rattle.pcef_capture_script.specs.Scripts.{Rota}
-use Rattle.pcef_capture_script.specs.Streams.{WritesCapture, Wrote, WroteFrontOf, WroteSoMuch}
+use Rattle.pcef_capture_script.specs.Streams.{WritesCapture, WroteCapture, WroteFrontOf, WroteSoMuch}
 use Rattle.pcef_capture_script.specs.Turns.{WroteSoFar, rest_flush}
-use Rattle.pcef_capture_script.specs.Writing.{WritesFront}
+use Rattle.pcef_capture_script.specs.Writing.{WritesScriptFront}
 use Rattle.pcef_capture_script.specs.declared.counts.Counts.{Counts}
 use Rattle.pcef_capture_script.specs.declared.end.End.{End}
 use Rattle.pcef_capture_script.specs.declared.end.End.TheVariants as «end»
@@ -31,7 +31,7 @@ use Rattle.pcef_capture_script.proofs.Fronts.{rest_front, so_far_front, takes_do
 -- ---- frames
 -- one record or block more
 pub goes_further : (input : List ℕ) (frames : List Captured) (place after : Place) (rest others : List ℕ) (p : Option Captured)
-    → Reached input frames place rest → GoesOn place rest p after others → Reached input (frames ++ packets_among (p ∷ [])) after others
+    → Reached input frames place rest → CaptureGoesOn place rest p after others → Reached input (frames ++ packets_among (p ∷ [])) after others
 goes_further input frames place after rest others p reached goes more packets fault read =
     let found = packets_among (p ∷ []) in
     subst (λ t. ReadsCapture (input ++ more) t fault) (sym (append_assoc frames found packets)) (reached more (found ++ packets) fault (goes more packets fault read))
@@ -66,15 +66,15 @@ fault_all input frames place rest f reached faults more =
 -- ---- lines
 -- what was written so far is a front of the script for the octets so far
 pub front_so_far : (ue : Addr) (pads : Bool) (rota : Rota) (start now : Option (List ℕ)) (written : Written) (place : Place) (rest input : List ℕ)
-    → IsAfter ue pads rota start now written place rest input → WroteFront ue pads rota start now input
+    → IsWrittenAfter ue pads rota start now written place rest input → WroteLinesFront ue pads rota start now input
 front_so_far ue pads rota start now written place rest input after =
     let there = read_of input after.0 place rest after.1 in
     (after.0 ++ there.0, there.1, there.2, so_far_front ue pads rota after.0 there.0 start now written.turn written.counts after.2)
 
 pub pauses : (ue : Addr) (pads : Bool) (rota : Rota) (start now : Option (List ℕ)) (written : Written) (place later : Place) (why : Stop) (rest input : List ℕ)
-    → IsAfter ue pads rota start now written place rest input → Stops place rest why later → Paused ue pads rota start now written later why rest input
+    → IsWrittenAfter ue pads rota start now written place rest input → Stops place rest why later → Paused ue pads rota start now written later why rest input
 pauses ue pads rota start now written place later (stop.Waits fault) rest input after stops =
-    (subst (λ p. IsAfter ue pads rota start now written p rest input) (sym stops.2) after, subst (λ p. ReadsOn p rest [] fault) (sym stops.2) stops.0)
+    (subst (λ p. IsWrittenAfter ue pads rota start now written p rest input) (sym stops.2) after, subst (λ p. ReadsOn p rest [] fault) (sym stops.2) stops.0)
 pauses ue pads rota start now written place later (stop.Fault f) rest input after stops =
     (after.0, fault_all input after.0 place rest f after.1 stops, after.2)
 pauses ue pads rota start now written place later stop.NoMemory rest input after stops =
@@ -82,11 +82,11 @@ pauses ue pads rota start now written place later stop.NoMemory rest input after
 
 -- a pause leaves a front of the script written
 paused_front : (ue : Addr) (pads : Bool) (rota : Rota) (start now : Option (List ℕ)) (written : Written) (place : Place) (why : Stop) (rest input : List ℕ)
-    → Paused ue pads rota start now written place why rest input → WroteFront ue pads rota start now input
+    → Paused ue pads rota start now written place why rest input → WroteLinesFront ue pads rota start now input
 paused_front ue pads rota start now written place (stop.Waits fault) rest input paused = front_so_far ue pads rota start now written place rest input paused.0
 paused_front ue pads rota start now written place (stop.Fault f) rest input paused =
     let read = subst (λ t. ReadsCapture t paused.0 (Some f)) (append-nil input) (paused.1 []) in
-    let front = subst (λ ps. WritesFront ue pads rota ps start now) (append-nil paused.0) (so_far_front ue pads rota paused.0 [] start now written.turn written.counts paused.2) in
+    let front = subst (λ ps. WritesScriptFront ue pads rota ps start now) (append-nil paused.0) (so_far_front ue pads rota paused.0 [] start now written.turn written.counts paused.2) in
     (paused.0, Some f, read, front)
 paused_front ue pads rota start now written place stop.NoMemory rest input paused = paused
 
@@ -108,7 +108,7 @@ kept octets rest len behind is =
     ap (λ n. drop (length octets - n) octets) (is ∙ ap length behind.1) ∙ kept_place octets behind.0 ∙ sym behind.1
 
 -- ---- the end
-pub ends : (ue : Addr) (pads : Bool) (rota : Rota) (e : End) (left old new : Option (List ℕ)) (input : List ℕ) → IsWriteEnd e → WroteFrontOf ue pads rota input old new → Wrote ue pads rota (Err e) left input old new
+pub ends : (ue : Addr) (pads : Bool) (rota : Rota) (e : End) (left old new : Option (List ℕ)) (input : List ℕ) → IsWriteEnd e → WroteFrontOf ue pads rota input old new → WroteCapture ue pads rota (Err e) left input old new
 ends ue pads rota («end».Write error) left old new input is front = front
 ends ue pads rota «end».NoMemory left old new input is front = front
 ends ue pads rota «end».Done left old new input is front = absurd is
@@ -118,7 +118,7 @@ ends ue pads rota («end».Read error) left old new input is front = absurd is
 -- at the end of the input
 ends_well : (ue : Addr) (pads : Bool) (rota : Rota) (start now next left : Option (List ℕ)) (written : Written) (place : Place) (rest input : List ℕ) (fault : Option CaptureFault)
     → Paused ue pads rota start now written place (stop.Waits fault) rest input → IsAtEnd left → Appends now next (rest_flush written.turn)
-    → Wrote ue pads rota (Ok (written.counts, fault)) left input start next
+    → WroteCapture ue pads rota (Ok (written.counts, fault)) left input start next
 ends_well ue pads rota start now next left written place rest input fault paused at_end last =
     let after = paused.0 in
     (after.0, (read_all input after.0 place rest fault after.1 paused.1, inl at_end), takes_done ue pads rota after.0 start now next written.turn written.counts after.2 last)
@@ -126,7 +126,7 @@ ends_well ue pads rota start now next left written place rest input fault paused
 -- at a fault
 ends_at_fault : (ue : Addr) (pads : Bool) (rota : Rota) (start now next left : Option (List ℕ)) (written : Written) (place : Place) (rest input : List ℕ) (f : CaptureFault)
     → Paused ue pads rota start now written place (stop.Fault f) rest input → Appends now next (rest_flush written.turn)
-    → Wrote ue pads rota (Ok (written.counts, Some f)) left input start next
+    → WroteCapture ue pads rota (Ok (written.counts, Some f)) left input start next
 ends_at_fault ue pads rota start now next left written place rest input f paused last =
     let read = subst (λ t. ReadsCapture t paused.0 (Some f)) (append-nil input) (paused.1 []) in
     (paused.0, (read, inr paused.1), takes_done ue pads rota paused.0 start now next written.turn written.counts paused.2 last)
@@ -141,16 +141,16 @@ last_front ue pads rota start now next written frames fault input read so_far fr
 -- ---- a frame
 -- the lines for a frame weren't put whole
 pub front_further : (ue : Addr) (pads : Bool) (rota : Rota) (start next : Option (List ℕ)) (input : List ℕ) (frames : List Captured) (place after : Place) (rest others : List ℕ) (p : Option Captured)
-    → Reached input frames place rest → GoesOn place rest p after others
-    → ((behind : List Captured) → WritesFront ue pads rota (frames ++ (packets_among (p ∷ []) ++ behind)) start next)
-    → WroteFront ue pads rota start next input
+    → Reached input frames place rest → CaptureGoesOn place rest p after others
+    → ((behind : List Captured) → WritesScriptFront ue pads rota (frames ++ (packets_among (p ∷ []) ++ behind)) start next)
+    → WroteLinesFront ue pads rota start next input
 front_further ue pads rota start next input frames place after rest others p reached goes front =
     let found = packets_among (p ∷ []) in
     let there = read_of input (frames ++ found) after others (goes_further input frames place after rest others p reached goes) in
     (frames ++ (found ++ there.0), there.1, subst (λ ps. ReadsCapture input ps there.1) (append_assoc frames found there.0) there.2, front there.0)
 
 -- ---- a flush of the writer
-front_kept : (ue : Addr) (pads : Bool) (rota : Rota) (start now next : Option (List ℕ)) (input : List ℕ) → WroteFront ue pads rota start now input → Keeps now next → WroteFront ue pads rota start next input
+front_kept : (ue : Addr) (pads : Bool) (rota : Rota) (start now next : Option (List ℕ)) (input : List ℕ) → WroteLinesFront ue pads rota start now input → Keeps now next → WroteLinesFront ue pads rota start next input
 front_kept ue pads rota start now next input front keeps =
     let wrote = front.3 in
     let part = wrote.2 in
@@ -172,7 +172,7 @@ pause_kept ue pads rota start now next written place stop.NoMemory rest input pa
 
 -- ---- more octets
 pub after_more : (ue : Addr) (pads : Bool) (rota : Rota) (start now : Option (List ℕ)) (written : Written) (place : Place) (rest input block : List ℕ)
-    → IsAfter ue pads rota start now written place rest input → IsAfter ue pads rota start now written place (rest ++ block) (input ++ block)
+    → IsWrittenAfter ue pads rota start now written place rest input → IsWrittenAfter ue pads rota start now written place (rest ++ block) (input ++ block)
 after_more ue pads rota start now written place rest input block after = (after.0, comes_further input block after.0 place rest after.1, after.2)
 
 -- ---- failures of the reader
@@ -203,7 +203,7 @@ ends_reading ue pads rota («end».Capture f) before b left start now written pl
 ends_reading ue pads rota («end».Write error) before b left start now written place rest input fault read paused fails = absurd fails
 
 pub pause_fails : (ue : Addr) (pads : Bool) (rota : Rota) (start now next : Option (List ℕ)) (written : Written) (place : Place) (why : Stop) (rest input : List ℕ)
-    → Paused ue pads rota start now written place why rest input → Keeps now next → WroteFront ue pads rota start next input
+    → Paused ue pads rota start now written place why rest input → Keeps now next → WroteLinesFront ue pads rota start next input
 pause_fails ue pads rota start now next written place why rest input paused keeps =
     front_kept ue pads rota start now next input (paused_front ue pads rota start now written place why rest input paused) keeps
 
@@ -212,7 +212,7 @@ pub ends_waiting : (ue : Addr) (pads : Bool) (rota : Rota) (r : Result (Counts �
     → Paused ue pads rota start now written place (stop.Waits fault) rest input → IsAtEnd left
     → IfOk r (λ told. (told ≡ (written.counts, fault)) × Appends now next (rest_flush written.turn))
     → IfErr r (λ e. IsWriteEnd e × AppendsFront now next (rest_flush written.turn))
-    → Wrote ue pads rota r left input start next
+    → WroteCapture ue pads rota r left input start next
 ends_waiting ue pads rota (Ok told) start now next left written place rest input fault paused at_end lines front =
     rw lines.0 (ends_well ue pads rota start now next left written place rest input fault paused at_end lines.1)
 ends_waiting ue pads rota (Err e) start now next left written place rest input fault paused at_end lines front =
@@ -224,7 +224,7 @@ pub ends_faulty : (ue : Addr) (pads : Bool) (rota : Rota) (r : Result (Counts ×
     → Paused ue pads rota start now written place (stop.Fault f) rest input
     → IfOk r (λ told. (told ≡ (written.counts, Some f)) × Appends now next (rest_flush written.turn))
     → IfErr r (λ e. IsWriteEnd e × AppendsFront now next (rest_flush written.turn))
-    → Wrote ue pads rota r left input start next
+    → WroteCapture ue pads rota r left input start next
 ends_faulty ue pads rota (Ok told) start now next left written place rest input f paused lines front =
     rw lines.0 (ends_at_fault ue pads rota start now next left written place rest input f paused lines.1)
 ends_faulty ue pads rota (Err e) start now next left written place rest input f paused lines front =

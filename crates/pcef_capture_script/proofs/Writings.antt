@@ -10,7 +10,7 @@ use Rattle.std.proofs.lemmas.List.Sums.{fold-append}
 use Rattle.std.proofs.lemmas.Nat.{div-mul-add, mod-mul-add, div-add-mod', mod_below}
 use Rattle.pcef_packet.specs.declared.header.Addr.{Addr}
 use Rattle.pcef_capture_file.specs.Captured.{Captured}
-use Rattle.pcef_capture_script.specs.Counting.{counted, counts_of, no_counts}
+use Rattle.pcef_capture_script.specs.Counting.{with_counted, counts_of, no_counts}
 use Rattle.pcef_capture_script.specs.Fates.{AreFates, Fate, IsFate, items_of, outcomes_of}
 use Rattle.pcef_capture_script.specs.Lines.{Item, take_line}
 use Rattle.pcef_capture_script.specs.Scripts.{Rota, batch_of, flush_behind, numbered_lines, worker_of}
@@ -180,7 +180,7 @@ pub one_frame_more : (ue : Addr) (pads : Bool) (rota : Rota) (frames more : List
     → WroteSoFar ue pads rota frames old now turn counts
     → WroteFrame ue pads frame turn after now next outcome
     → more ≡ frames ++ frame ∷ []
-    → WroteSoFar ue pads rota more old next after (counted outcome counts)
+    → WroteSoFar ue pads rota more old next after (with_counted outcome counts)
 one_frame_more ue pads rota frames more old now next turn after counts frame outcome so_far wrote e =
     let fates = so_far.0 in
     let fate = wrote.0 in
@@ -191,5 +191,5 @@ one_frame_more ue pads rota frames more old now next turn after counts frame out
       subst (λ fs. AreFates ue pads fs (fates ++ fate ∷ [])) (sym e) (fates_more ue pads frames fates frame fate so_far.1 wrote.1),
       here.0 ∙ ap (λ is. turn_at rota (length is)) items,
       subst (λ is. Appends old next (lines_from rota 0 is)) items here.1,
-      ap (λ o. counted o counts) wrote.2.0 ∙ ap (counted fate.0) so_far.4 ∙ sym (fold-append (λ (cs : Counts) (o : Outcome). counted o cs) no_counts (outcomes_of fates) (fate.0 ∷ [])) ∙ ap counts_of outcomes,
+      ap (λ o. with_counted o counts) wrote.2.0 ∙ ap (with_counted fate.0) so_far.4 ∙ sym (fold-append (λ (cs : Counts) (o : Outcome). with_counted o cs) no_counts (outcomes_of fates) (fate.0 ∷ [])) ∙ ap counts_of outcomes,
     )

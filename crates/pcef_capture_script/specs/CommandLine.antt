@@ -94,11 +94,11 @@ command_line = with_rule line_to_times file_rule
 abbrev pub given : List Text → Text → Option Text
 given words name = one_of name (matches_of command_line words)
 
--- the same, as it is written
-abbrev pub written : List Text → Text → Option Text
-written words name = first_of name (matches_of command_line words)
+-- the same, as it is as_written
+abbrev pub as_written : List Text → Text → Option Text
+as_written words name = first_of name (matches_of command_line words)
 
--- Whose packets are asked for, by the texts of --ue and --sessions: one of them is wanted. An address is written as a
+-- Whose packets are asked for, by the texts of --ue and --sessions: one of them is wanted. An address is as_written as a
 -- profile writes it.
 abbrev pub AreUsers : Option Text → Option Text → Result Users Request → Type 0
 AreUsers (Some text) None (Ok (users.One address)) = WritesAddress text address
@@ -110,14 +110,14 @@ AreUsers ue map other = ⊥
 
 -- which packets are asked for: with a TEID those of its tunnel, and else by --gtp
 pub record ArePackets (words : List Text) (p : Packets) : Type 0 where
-  pub teid : (t : Text) → written words (codes "teid") ≡ Some t → (text : Text) × (given words (codes "teid") ≡ Some text) × (p ≡ packets.OfTunnel (digits_value 10 (without_leading_plus text)))
-  pub gtp : written words (codes "teid") ≡ None → given words (codes "gtp") ≡ Some (codes "true") → p ≡ packets.OfTunnels
-  pub gtp_not : written words (codes "teid") ≡ None → given words (codes "gtp") ≡ Some (codes "false") → p ≡ packets.OfFrames
+  pub teid : (t : Text) → as_written words (codes "teid") ≡ Some t → (text : Text) × (given words (codes "teid") ≡ Some text) × (p ≡ packets.OfTunnel (digits_value 10 (without_leading_plus text)))
+  pub gtp : as_written words (codes "teid") ≡ None → given words (codes "gtp") ≡ Some (codes "true") → p ≡ packets.OfTunnels
+  pub gtp_not : as_written words (codes "teid") ≡ None → given words (codes "gtp") ≡ Some (codes "false") → p ≡ packets.OfFrames
 
--- the numbers of workers and of packets in a batch are those that are written; packets are padded where
+-- the numbers of workers and of packets in a batch are those that are as_written; packets are padded where
 -- that is asked for; the files are those that are named
-pub record Asks (words : List Text) (o : Options) : Type 0 where
-  pub users : AreUsers (written words (codes "ue")) (written words (codes "sessions")) (Ok o.users)
+pub record AsksCapture (words : List Text) (o : Options) : Type 0 where
+  pub users : AreUsers (as_written words (codes "ue")) (as_written words (codes "sessions")) (Ok o.users)
   pub packets : ArePackets words o.packets
   pub workers_text : Text
   pub workers_given : given words (codes "workers") ≡ Some workers_text
@@ -127,10 +127,10 @@ pub record Asks (words : List Text) (o : Options) : Type 0 where
   pub batch : o.batch ≡ digits_value 10 (without_leading_plus batch_text)
   pub pads : given words (codes "pad") ≡ Some (codes "true") → o.pads ≡ true
   pub pads_not : given words (codes "pad") ≡ Some (codes "false") → o.pads ≡ false
-  pub times : written words (codes "times") ≡ option_map (λ s. s.now) o.times
-  pub file : written words (codes "file") ≡ Some o.file.now
+  pub times : as_written words (codes "times") ≡ option_map (λ s. s.now) o.times
+  pub file : as_written words (codes "file") ≡ Some o.file.now
 
 -- the options, or why the words name no session
 abbrev pub IsRequest : List Text → Request → Type 0
-IsRequest words (request.Options o) = Asks words o
-IsRequest words other = AreUsers (written words (codes "ue")) (written words (codes "sessions")) (Err other)
+IsRequest words (request.Options o) = AsksCapture words o
+IsRequest words other = AreUsers (as_written words (codes "ue")) (as_written words (codes "sessions")) (Err other)

@@ -8,15 +8,15 @@ use Rattle.pcef_capture_script.specs.declared.counts.Outcome.TheVariants.{Taken,
 abbrev pub more : ℕ → ℕ
 more n = min (n + 1) (2 ^ 64 - 1)
 
-abbrev pub counted : Outcome → Counts → Counts
-counted Taken c = record c { read = more c.read; taken = more c.taken }
-counted NotIp c = record c { read = more c.read; not_ip = more c.not_ip }
-counted Cut c = record c { read = more c.read; cut = more c.cut }
-counted Neither c = record c { read = more c.read; neither = more c.neither }
+abbrev pub with_counted : Outcome → Counts → Counts
+with_counted Taken c = record c { read = more c.read; taken = more c.taken }
+with_counted NotIp c = record c { read = more c.read; not_ip = more c.not_ip }
+with_counted Cut c = record c { read = more c.read; cut = more c.cut }
+with_counted Neither c = record c { read = more c.read; neither = more c.neither }
 
 abbrev pub no_counts : Counts
 no_counts = record { read = 0; taken = 0; not_ip = 0; cut = 0; neither = 0 }
 
 -- the counts of all outcomes
 abbrev pub counts_of : List Outcome → Counts
-counts_of outcomes = fold (λ counts outcome. counted outcome counts) no_counts outcomes
+counts_of outcomes = fold (λ counts outcome. with_counted outcome counts) no_counts outcomes

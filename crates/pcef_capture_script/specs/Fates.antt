@@ -6,7 +6,7 @@ use Rattle.pcef_packet.specs.declared.header.Dir.{Dir}
 use Rattle.pcef_packet.specs.declared.header.PacketFault.{PacketFault}
 use Rattle.pcef_capture_file.specs.Captured.{Captured}
 use Rattle.pcef_capture_file.specs.Contents.{IsContent}
-use Rattle.pcef_capture_file.specs.Directions.{direction_in}
+use Rattle.pcef_capture_file.specs.Directions.{direction_of_packet}
 use Rattle.pcef_capture_file.specs.Padding.{padded}
 use Rattle.pcef_capture_file.specs.declared.content.Content.{Content}
 use Rattle.pcef_capture_file.specs.declared.content.Content.TheVariants.{Packet, Neither, Cut, NotIp}
@@ -29,7 +29,7 @@ abbrev pub fate_of : Addr → Bool → Content → Fate
 fate_of ue pads (Packet dir octets) = (outcome.Taken, Some (dir, octets.now))
 fate_of ue pads Neither = (outcome.Neither, None)
 fate_of ue pads (Cut octets) =
-    if pads then filled_fate (padded octets.now) (direction_in ue (padded octets.now))
+    if pads then filled_fate (padded octets.now) (direction_of_packet ue (padded octets.now))
     else (outcome.Cut, None)
 fate_of ue pads NotIp = (outcome.NotIp, None)
 

@@ -10,7 +10,7 @@ use Rattle.pcef_capture_file.specs.declared.stop.Stop.{Stop}
 use Rattle.pcef_capture_file.specs.declared.stop.Stop.TheVariants as stop
 use Rattle.pcef_capture_script.specs.Scripts.{Rota}
 use Rattle.pcef_capture_script.specs.Turns.{WroteSoFar}
-use Rattle.pcef_capture_script.specs.Writing.{WritesFront}
+use Rattle.pcef_capture_script.specs.Writing.{WritesScriptFront}
 use Rattle.pcef_capture_script.specs.declared.end.End.{End}
 use Rattle.pcef_capture_script.specs.declared.end.End.TheVariants as «end»
 use Rattle.pcef_capture_script.specs.declared.plan.Plan.{Plan}
@@ -24,23 +24,23 @@ Reached input frames place rest =
     → ReadsCapture (input ++ more) (frames ++ packets) fault
 
 -- such is the state after some octets, whose lines were written from `start` on
-abbrev pub IsAfter : Addr → Bool → Rota → Option (List ℕ) → Option (List ℕ) → Written → Place → List ℕ → List ℕ → Type 0
-IsAfter ue pads rota start now written place rest input =
+abbrev pub IsWrittenAfter : Addr → Bool → Rota → Option (List ℕ) → Option (List ℕ) → Written → Place → List ℕ → List ℕ → Type 0
+IsWrittenAfter ue pads rota start now written place rest input =
     (frames : List Captured) × Reached input frames place rest × WroteSoFar ue pads rota frames start now written.turn written.counts
 
 -- a front of the script for the frames of these octets
-abbrev pub WroteFront : Addr → Bool → Rota → Option (List ℕ) → Option (List ℕ) → List ℕ → Type 0
-WroteFront ue pads rota start now input =
-    (frames : List Captured) × (fault : Option CaptureFault) × ReadsCapture input frames fault × WritesFront ue pads rota frames start now
+abbrev pub WroteLinesFront : Addr → Bool → Rota → Option (List ℕ) → Option (List ℕ) → List ℕ → Type 0
+WroteLinesFront ue pads rota start now input =
+    (frames : List Captured) × (fault : Option CaptureFault) × ReadsCapture input frames fault × WritesScriptFront ue pads rota frames start now
 
 -- the lines of all whole frames are written, and this is why there are no more
 abbrev pub Paused : Addr → Bool → Rota → Option (List ℕ) → Option (List ℕ) → Written → Place → Stop → List ℕ → List ℕ → Type 0
 Paused ue pads rota start now written place (stop.Waits fault) rest input =
-    IsAfter ue pads rota start now written place rest input × ReadsOn place rest [] fault
+    IsWrittenAfter ue pads rota start now written place rest input × ReadsOn place rest [] fault
 Paused ue pads rota start now written place (stop.Fault fault) rest input =
     (frames : List Captured) × ((more : List ℕ) → ReadsCapture (input ++ more) frames (Some fault))
     × WroteSoFar ue pads rota frames start now written.turn written.counts
-Paused ue pads rota start now written place stop.NoMemory rest input = WroteFront ue pads rota start now input
+Paused ue pads rota start now written place stop.NoMemory rest input = WroteLinesFront ue pads rota start now input
 
 -- the writer failed, or memory ran out
 abbrev pub IsWriteEnd : End → Type 0

@@ -30,8 +30,8 @@ abbrev pub last_flush : Rota → ℕ → List ℕ
 last_flush rota count = if count % batch_of rota == 0 then [] else flush_line (worker_of rota count)
 
 -- the lines for packets after which more may come
-abbrev pub lines_of : Rota → List Item → List ℕ
-lines_of rota items = flat_map (numbered_lines rota) (enumerate_from 0 items)
+abbrev pub take_lines : Rota → List Item → List ℕ
+take_lines rota items = flat_map (numbered_lines rota) (enumerate_from 0 items)
 
 abbrev pub script_of : Rota → List Item → List ℕ
-script_of rota items = lines_of rota items ++ last_flush rota (length items)
+script_of rota items = take_lines rota items ++ last_flush rota (length items)

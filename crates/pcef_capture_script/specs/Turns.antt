@@ -6,7 +6,7 @@ use Rattle.pcef_capture_file.specs.Captured.{Captured}
 use Rattle.pcef_capture_script.specs.Counting.{counts_of}
 use Rattle.pcef_capture_script.specs.Fates.{AreFates, Fate, IsFate, items_of, outcomes_of}
 use Rattle.pcef_capture_script.specs.Lines.{Item, flush_line, take_line}
-use Rattle.pcef_capture_script.specs.Scripts.{Rota, batch_of, lines_of, worker_of}
+use Rattle.pcef_capture_script.specs.Scripts.{Rota, batch_of, take_lines, worker_of}
 use Rattle.pcef_writing.specs.Writing.{AppendsFront}
 use Rattle.pcef_capture_script.specs.declared.counts.Counts.{Counts}
 use Rattle.pcef_capture_script.specs.declared.counts.Outcome.{Outcome}
@@ -69,4 +69,4 @@ rest_flush turn = if turn.waiting == 0 then [] else flush_line turn.worker
 abbrev pub WroteSoFar : Addr → Bool → Rota → List Captured → Option (List ℕ) → Option (List ℕ) → Turn → Counts → Type 0
 WroteSoFar ue pads rota frames old now turn counts =
     (fates : List Fate) × AreFates ue pads frames fates × (turn ≡ turn_at rota (length (items_of fates)))
-    × Appends old now (lines_of rota (items_of fates)) × (counts ≡ counts_of (outcomes_of fates))
+    × Appends old now (take_lines rota (items_of fates)) × (counts ≡ counts_of (outcomes_of fates))

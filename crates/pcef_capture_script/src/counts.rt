@@ -1,7 +1,7 @@
 //! The outcomes of packets.
 
 ghost use Rattle.std.specs.Prelude.{◌≡◌};
-ghost use Rattle.pcef_capture_script.specs.Counting.{counted};
+ghost use Rattle.pcef_capture_script.specs.Counting.{with_counted};
 
 /// The outcome of a frame.
 #[derive(Clone, Copy)]
@@ -34,7 +34,7 @@ pub struct Counts {
 impl Counts {
     /// Counts one frame more.
     pub fn count(&mut self, outcome: Outcome)
-        ensures { self.new ≡ counted outcome self.old }
+        ensures { self.new ≡ with_counted outcome self.old }
     {
         self.read = self.read.saturating_add(1);
         match outcome {

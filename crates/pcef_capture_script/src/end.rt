@@ -1,7 +1,7 @@
 //! How the program ends.
 
 ghost use Rattle.std.specs.Prelude.{◌≡◌};
-ghost use Rattle.pcef_capture_script.specs.Ends.{end_status};
+ghost use Rattle.pcef_capture_script.specs.Ends.{capture_status};
 
 use pcef_capture_file::CaptureFault;
 use std::io;
@@ -24,7 +24,7 @@ pub enum End {
 impl End {
     /// The exit status. Wrong arguments, which clap finds, have 2.
     pub fn status(&self) -> u8
-        ensures { result ≡ end_status self.now }
+        ensures { result ≡ capture_status self.now }
     {
         match self {
             End::Done => 0,

@@ -4,7 +4,7 @@ ghost use Rattle.std.specs.Prelude.{◌≡◌, IfOk, OnErr, OnOk, codes, string_
 ghost use Rattle.std.specs.Io.KnownBytes.{Appends};
 ghost use Rattle.pcef_capture_file.specs.Captured.{captured};
 ghost use Rattle.pcef_capture_script.specs.declared.counts.Outcome.TheVariants.{Taken};
-ghost use Rattle.pcef_capture_file.specs.Directions.{direction_in};
+ghost use Rattle.pcef_capture_file.specs.Directions.{direction_of_packet};
 ghost use Rattle.pcef_capture_file.specs.Padding.{padded};
 ghost use Rattle.pcef_capture_script.specs.Fates.{filled_fate};
 ghost use Rattle.pcef_capture_script.specs.Lines.{dir_word, flush_line, take_line};
@@ -99,7 +99,7 @@ fn write_padded<W: Write>(
 ) -> io::Result<Outcome>
     ensures { IfOk result (λ outcome. WroteFate turn.old turn.new
         (W.contents writer.old) (W.contents writer.new) outcome
-        (filled_fate (padded octets.now) (direction_in ue (padded octets.now)))) }
+        (filled_fate (padded octets.now) (direction_of_packet ue (padded octets.now)))) }
 {
     let whole = padded(alloc, octets)?;
     match direction_of(ue, &whole) {

@@ -5,12 +5,12 @@ ghost use Rattle.pcef_capture_file.specs.Captured.{Captured, captured};
 ghost use Rattle.pcef_capture_file.specs.PcapNg.{packets_among};
 ghost use Rattle.pcef_capture_file.specs.Streams.{StandsBehind};
 ghost use Rattle.std.specs.Io.KnownBytes.{Appends, Consumes};
-ghost use Rattle.pcef_capture_script.specs.Progress.{FailsInFront, FailsToRead, IsAfter, IsWriteEnd, Paused, Reached, ReadsFront, ReadsMore, WroteFront, rota_of};
+ghost use Rattle.pcef_capture_script.specs.Progress.{FailsInFront, FailsToRead, IsWrittenAfter, IsWriteEnd, Paused, Reached, ReadsFront, ReadsMore, WroteLinesFront, rota_of};
 ghost use Rattle.pcef_capture_script.specs.Scripts.{Rota};
 ghost use Rattle.pcef_capture_script.specs.Streams.{WritesCapture};
 ghost use Rattle.pcef_capture_script.specs.Turns.{WroteSoFar, rest_flush};
 ghost use Rattle.pcef_writing.specs.Writing.{AppendsFront};
-ghost use Rattle.pcef_capture_script.specs.Writing.{WritesFront};
+ghost use Rattle.pcef_capture_script.specs.Writing.{WritesScriptFront};
 
 use crate::counts::Counts;
 use crate::end::End;
@@ -63,7 +63,7 @@ fn put_frame<W: Write>(
     ensures front { (frames rest : List Captured) (start : Option (List ℕ)) (rota : Rota)
         → WroteSoFar plan.now.ue plan.now.pads rota frames start (W.contents writer.old)
         written.old.turn written.old.counts
-        → OnErr result (WritesFront plan.now.ue plan.now.pads rota
+        → OnErr result (WritesScriptFront plan.now.ue plan.now.pads rota
         (frames ++ (packets_among (option_map captured packet.entry ∷ []) ++ rest)) start
         (W.contents writer.new)) }
 {
@@ -88,14 +88,14 @@ fn put_whole<'a, W: Write>(
     writer: &mut W,
 ) -> io::Result<(&'a [u8], Stop)>
     ensures lines { (start : Option (List ℕ)) (rota : Rota) (input : List ℕ)
-        → IsAfter plan.now.ue plan.now.pads rota start (W.contents writer.old) written.old
+        → IsWrittenAfter plan.now.ue plan.now.pads rota start (W.contents writer.old) written.old
         stream.old octets.entry.now input
         → IfOk result (λ found. Paused plan.now.ue plan.now.pads rota start
         (W.contents writer.new) written.new stream.new found.1 found.0.now input) }
     ensures front { (start : Option (List ℕ)) (rota : Rota) (input : List ℕ)
-        → IsAfter plan.now.ue plan.now.pads rota start (W.contents writer.old) written.old
+        → IsWrittenAfter plan.now.ue plan.now.pads rota start (W.contents writer.old) written.old
         stream.old octets.entry.now input
-        → OnErr result (WroteFront plan.now.ue plan.now.pads rota start
+        → OnErr result (WroteLinesFront plan.now.ue plan.now.pads rota start
         (W.contents writer.new) input) }
     ensures behind { IfOk result (λ found. StandsBehind octets.entry.now found.0.now) }
 {
@@ -133,14 +133,14 @@ fn put_waiting<W: Write>(
     writer: &mut W,
 ) -> Result<Stop, End>
     ensures lines { (start : Option (List ℕ)) (rota : Rota) (input : List ℕ)
-        → IsAfter plan.now.ue plan.now.pads rota start (W.contents writer.old) written.old
+        → IsWrittenAfter plan.now.ue plan.now.pads rota start (W.contents writer.old) written.old
         stream.old waiting.old.items input
         → IfOk result (λ stop. Paused plan.now.ue plan.now.pads rota start
         (W.contents writer.new) written.new stream.new stop waiting.new.items input) }
     ensures front { (start : Option (List ℕ)) (rota : Rota) (input : List ℕ)
-        → IsAfter plan.now.ue plan.now.pads rota start (W.contents writer.old) written.old
+        → IsWrittenAfter plan.now.ue plan.now.pads rota start (W.contents writer.old) written.old
         stream.old waiting.old.items input
-        → OnErr result (WroteFront plan.now.ue plan.now.pads rota start
+        → OnErr result (WroteLinesFront plan.now.ue plan.now.pads rota start
         (W.contents writer.new) input) }
     ensures end { IfErr result (λ end. IsWriteEnd end) }
 {

@@ -2,7 +2,7 @@
 
 ghost use Rattle.std.specs.Prelude.{◌≡◌, ◌≤◌};
 ghost use Rattle.clap.specs.Words.{kind_of};
-ghost use Rattle.pcef_command_line.specs.Statuses.{IsDue};
+ghost use Rattle.pcef_command_line.specs.Statuses.{IsStatusDue};
 
 use clap::Error;
 use clap::error::ErrorKind;
@@ -19,7 +19,7 @@ pub fn report_no_memory(rt: &HostRuntime) -> u8
 /// for, else 2; or 4 where nothing can be written. Help and the version stand on standard output, and a failing write
 /// of them is reported.
 pub fn refuse(rt: &HostRuntime, error: &Error) -> u8
-    ensures due { IsDue (kind_of error.now) result }
+    ensures due { IsStatusDue (kind_of error.now) result }
     ensures within { result ≤ 4 }
 {
     if error.kind() == ErrorKind::OutOfMemory {

@@ -3,7 +3,7 @@
 use Rattle.std.specs.Prelude.{ℕ, ◌≡◌, ◌≤◌, ◌+◌, true, List, Some, AllPairs, Contains, map}
 use Rattle.std.specs.List.{AllByRecursion}
 use Rattle.pcef_rule.specs.declared.quantity.Qos.{Qos}
-use Rattle.pcef_bearer.specs.Bindings.{Agree, Binding, DifferInName, bearer_of, guaranteed, total_down, total_up}
+use Rattle.pcef_bearer.specs.Bindings.{Agree, Binding, DifferInName, bearer_of_rule, guaranteed, bound_down, bound_up}
 use Rattle.pcef_bearer.specs.Standing.{binding_of}
 use Rattle.pcef_model.specs.ActiveRules.{Active}
 use Rattle.pcef_model.specs.Entries.{Journal, rows}
@@ -39,15 +39,15 @@ pub record SessionIsExact (p : Setting) (s : KeptBySession) : Type 0 where
   pub names : AllPairs DifferInName s.binding.bound
   -- each is bound to one bearer, that of its QCI and ARP (TS 23.203, clause 6.1.1.4)
   pub bound : (r : Active) → Contains (now p s.journal).rules r →
-      bearer_of r.properties.name s.binding.bound ≡ Some (record { 0 = (now p s.journal).id_of r.properties.qos })
+      bearer_of_rule r.properties.name s.binding.bound ≡ Some (record { 0 = (now p s.journal).id_of r.properties.qos })
   -- two rules are on one bearer exactly where they have the same QCI and ARP
   pub shared : AllPairs Agree s.binding.bound
   -- a bearer guarantees the exact sums of the rates of the active rules with its QCI and ARP
   pub sums : (q : Qos) → has_bearer p (now p s.journal).rules q ≡ true →
       guaranteed ((now p s.journal).id_of q) s.binding.bound ≡ Some (rate_of (now p s.journal) q)
   -- all rates together are within the capacity
-  pub within_up : total_up s.binding.bound ≤ p.capacity.up
-  pub within_down : total_down s.binding.bound ≤ p.capacity.down
+  pub within_up : bound_up s.binding.bound ≤ p.capacity.up
+  pub within_down : bound_down s.binding.bound ≤ p.capacity.down
   -- the keys are those that were ever named, in the order of their first naming
   pub keys_are : map (λ k. k.key) s.keys ≡ slots p s.journal
   -- the reported octets of each are those of the journal's reports; with the unreported ones they are those of the packet

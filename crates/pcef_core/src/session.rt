@@ -49,7 +49,7 @@ impl Session {
     ghost use Rattle.pcef_model.specs.Reports.{after_leave};
     ghost use Rattle.pcef_model.specs.ProfileModel.{setting_of};
     ghost use Rattle.pcef_session.specs.Agreement.{KeysAgree};
-    ghost use Rattle.pcef_session.specs.Answers.{AnswersCommand, AnswersFinish, AnswersFlush, AreActive, IsLaneEnd, IsOpened, KeepsPrepared, MayFollow, Refuses, Settles, ShowsNewest, binding_now};
+    ghost use Rattle.pcef_session.specs.Answers.{AnswersCommand, AnswersFinish, AnswersFlush, AreActive, IsLaneEnd, IsOpened, KeepsPrepared, MayComeNext, Refuses, Settles, ShowsNewest, binding_now};
     ghost use Rattle.pcef_session.specs.Following.{HasFewKeys, HasItsSlots};
     ghost use Rattle.pcef_session.specs.Preparing.{IsPreparedFor, command_of};
     ghost use Rattle.pcef_session.specs.SessionModel.{HasAtLeast};
@@ -121,7 +121,7 @@ impl Session {
 
     /// As [`JournaledState::flush`].
     pub fn flush(&mut self, worker: u8, batch: &Batch) -> Result<Verdicts, FlushRefusal>
-        requires follow { MayFollow (state_of self.old) worker batch.now }
+        requires follow { MayComeNext (state_of self.old) worker batch.now }
         requires slots { HasItsSlots (setting_in self.old) (journal_in self.old) batch.now }
         ensures answer { AnswersFlush (state_of self.old) worker batch.now
             result (state_of self.new) }
@@ -151,7 +151,7 @@ impl Session {
 
     /// As [`JournaledState::finish`].
     pub fn finish(&mut self, worker: u8, batch: &Batch) -> Result<(Verdicts, u64), FlushRefusal>
-        requires follow { MayFollow (state_of self.old) worker batch.now }
+        requires follow { MayComeNext (state_of self.old) worker batch.now }
         requires slots { HasItsSlots (setting_in self.old) (journal_in self.old) batch.now }
         ensures answer { AnswersFinish (state_of self.old) worker batch.now
             result (state_of self.new) }

@@ -13,19 +13,19 @@ use Rattle.std.proofs.Common.{append_assoc}
 use Rattle.pcef_figures.specs.Collecting.{AreFiguresOf, generation_from, keys_from, last_from, rates_from, rules_from}
 use Rattle.pcef_figures.specs.Grants.{KeyFigure, generation_behind, grants_in, keys_behind}
 use Rattle.pcef_figures.specs.Guarantees.{RuleFigure, rates_in, rules_behind}
-use Rattle.pcef_figures.specs.Pairing.{Exchange, data_of, exchange_of, is_answered}
+use Rattle.pcef_figures.specs.Pairing.{Exchange, json_of, exchange_of, is_answered}
 use Rattle.pcef_figures.specs.Usages.{refusals_in, usage_in}
 use Rattle.pcef_figures.specs.private.Steps.{AddsExchange}
 
 -- ---- JSON
-pub data_read : (octets : List ℕ) → IsUtf8 octets → data_of octets ≡ read octets
+pub data_read : (octets : List ℕ) → IsUtf8 octets → json_of octets ≡ read octets
 data_read octets holds = rw (is_utf8-from_IsUtf8 octets holds) refl
 
-other_by : (octets : List ℕ) (test : Bool) → is_utf8 octets ≡ test → ¬ (IsUtf8 octets) → None ≡ data_of octets
+other_by : (octets : List ℕ) (test : Bool) → is_utf8 octets ≡ test → ¬ (IsUtf8 octets) → None ≡ json_of octets
 other_by octets true is isnt = absurd (isnt (IsUtf8-from_is_utf8 octets is))
 other_by octets false is isnt = rw is refl
 
-pub other_none : (octets : List ℕ) → ¬ (IsUtf8 octets) → None ≡ data_of octets
+pub other_none : (octets : List ℕ) → ¬ (IsUtf8 octets) → None ≡ json_of octets
 other_none octets isnt = other_by octets (is_utf8 octets) refl isnt
 
 -- ---- one line more

@@ -8,7 +8,7 @@ use Rattle.std.proofs.lemmas.List.Elements.{All-from_get_or}
 use Rattle.std.proofs.lemmas.List.Splits.{slice_split_at, slice_split_none}
 use Rattle.std.proofs.Math.Seq.{drop-cons}
 use Rattle.memchr.specs.Find.{IsFirstByte, Nowhere, Passes, is_byte}
-use Rattle.pcef_figures.specs.Pairing.{filled_from, is_blank, lines_of}
+use Rattle.pcef_figures.specs.Pairing.{filled_from, is_unanswered, split_lines}
 use Rattle.pcef_figures.specs.private.Lines.{IsFirstLine}
 
 none_before : (octets : List ℕ) (place : ℕ) → place ≤ length octets → Nowhere (Passes (is_byte 10) octets) 0 place
@@ -19,7 +19,7 @@ none_before octets place le none =
     (λ i below. rw (get_or-take place octets i 0 (omega (arith, below, long))) (false_from_ne_true _ (none i (omega arith) (omega (arith, below, long)))))
 
 -- nothing ends it
-pub first_alone : (octets : List ℕ) → IsFirstByte (is_byte 10) octets None → lines_of octets ≡ octets ∷ []
+pub first_alone : (octets : List ℕ) → IsFirstByte (is_byte 10) octets None → split_lines octets ≡ octets ∷ []
 first_alone octets none =
     let all = none_before octets (length octets) (omega arith) none in
     slice_split_none (λ b. b == 10) octets (rw (← take_all (length octets) octets (omega arith)) all)
@@ -36,11 +36,11 @@ first_found octets line back rest place found front back_is rest_is =
     let whole : octets ≡ take place octets ++ 10 ∷ rest =
     sym (take-append-drop place octets) ∙ ap (λ t. take place octets ++ t) (at ∙ ap (λ t. 10 ∷ t) (sym later)) in
     let shorter : length rest + 1 ≤ length octets = omega (arith, ap length later ∙ length-drop (suc place) octets, below) in
-    (ap lines_of whole ∙ slice_split_at (λ b. b == 10) (take place octets) 10 rest plain refl ∙ ap (λ l. l ∷ lines_of rest) (sym front), shorter)
+    (ap split_lines whole ∙ slice_split_at (λ b. b == 10) (take place octets) 10 rest plain refl ∙ ap (λ l. l ∷ split_lines rest) (sym front), shorter)
 
 -- a blank line is skipped, and the next one comes first
-pub blank_first : (number : ℕ) (line : List ℕ) (lines : List (List ℕ)) → is_blank line ≡ true → filled_from number (line ∷ lines) ≡ filled_from (number + 1) lines
+pub blank_first : (number : ℕ) (line : List ℕ) (lines : List (List ℕ)) → is_unanswered line ≡ true → filled_from number (line ∷ lines) ≡ filled_from (number + 1) lines
 blank_first number line lines is = rw is refl
 
-pub filled_first : (number : ℕ) (line : List ℕ) (lines : List (List ℕ)) → is_blank line ≡ false → filled_from number (line ∷ lines) ≡ (number, line) ∷ filled_from (number + 1) lines
+pub filled_first : (number : ℕ) (line : List ℕ) (lines : List (List ℕ)) → is_unanswered line ≡ false → filled_from number (line ∷ lines) ≡ (number, line) ∷ filled_from (number + 1) lines
 filled_first number line lines is = rw is refl

@@ -9,7 +9,7 @@ use Rattle.pcef_figures.specs.declared.figures.Rates.{Rates}
 use Rattle.pcef_figures.specs.Grants.{GrantFigure, KeyFigure, generation_behind, grant_of, grants_in, key_of, keys_behind}
 use Rattle.pcef_figures.specs.Guarantees.{RuleFigure, rates_in, rules_behind}
 use Rattle.pcef_figures.specs.Pairing.{Exchange, exchanges, filled, is_answered, has_value}
-use Rattle.pcef_figures.specs.Usages.{UsageFigure, RefusalFigure, refusal_in, refusal_of, refusals_in, usage_figure_of, usage_in}
+use Rattle.pcef_figures.specs.Usages.{UsageFigure, RefusalFigure, refusal_shown, refusal_of, refusals_in, usage_figure_of, usage_in}
 
 -- the number of the last line of these, or else this one
 abbrev pub last_from : ℕ → List Exchange → ℕ
@@ -73,22 +73,22 @@ pub record IsBlank (f : Figures) : Type 0 where
 -- only in the answer to a line that was done
 abbrev pub IsMismatch : ℕ → Option Data → Data → CollectFault → Type 0
 IsMismatch number line answer (fault.NoAnswer n) = (n ≡ number) × (has_value number line answer ≡ false)
-IsMismatch number line answer (fault.OtherPackets n) = (n ≡ number) × (refusal_in number answer ≡ None) × (is_some line ≡ true)
+IsMismatch number line answer (fault.OtherPackets n) = (n ≡ number) × (refusal_shown number answer ≡ None) × (is_some line ≡ true)
 IsMismatch number line answer fault.MoreAnswers = ⊥
 IsMismatch number line answer fault.NoMemory = Unit {0}
 
 -- and with any answer
-abbrev pub IsAtFault : CollectFault → Exchange → Type 0
-IsAtFault (fault.NoAnswer n) x = (n ≡ x.number) × (is_answered x ≡ false)
-IsAtFault (fault.OtherPackets n) x = (n ≡ x.number) × (is_answered x ≡ true) × (refusal_in x.number x.answer ≡ None)
-IsAtFault fault.MoreAnswers x = ⊥
-IsAtFault fault.NoMemory x = Unit {0}
+abbrev pub IsExchangeFault : CollectFault → Exchange → Type 0
+IsExchangeFault (fault.NoAnswer n) x = (n ≡ x.number) × (is_answered x ≡ false)
+IsExchangeFault (fault.OtherPackets n) x = (n ≡ x.number) × (is_answered x ≡ true) × (refusal_shown x.number x.answer ≡ None)
+IsExchangeFault fault.MoreAnswers x = ⊥
+IsExchangeFault fault.NoMemory x = Unit {0}
 
 -- the first line at fault stands behind lines that have their answers
 abbrev pub FailsFirst : CollectFault → List Exchange → Type 0
 FailsFirst fault xs =
     (front : List Exchange) × (x : Exchange) × (back : List Exchange)
-    × (xs ≡ front ++ x ∷ back) × All (λ y. is_answered y ≡ true) front × IsAtFault fault x
+    × (xs ≡ front ++ x ∷ back) × All (λ y. is_answered y ≡ true) front × IsExchangeFault fault x
 
 -- why a script and answers don't belong together
 abbrev pub Fails : CollectFault → List ℕ → List ℕ → Type 0

@@ -5,7 +5,7 @@ use Rattle.serde_json.specs.Data.{Data, Items, item, no_items}
 use Rattle.serde_json.specs.Find.{as_bool, get}
 use Rattle.pcef_figures.specs.declared.figures.Grant.{Grant}
 use Rattle.pcef_figures.specs.declared.figures.KeyState.{KeyState}
-use Rattle.pcef_figures.specs.Usages.{RefusalFigure, list_in, number_in, or_empty, refusal_in, text_in}
+use Rattle.pcef_figures.specs.Usages.{RefusalFigure, items_in, member_number, or_empty, refusal_shown, text_in}
 
 -- ---- members of objects
 abbrev pub or_zero : Option ℕ → ℕ
@@ -19,13 +19,13 @@ or_false (Some flag) = flag
 abbrev pub flag_in : List ℕ → Data → Bool
 flag_in key d = or_false (option_and_then as_bool (get key d))
 
-abbrev pub is_text : List ℕ → Option (List ℕ) → Bool
-is_text word None = false
-is_text word (Some text) = bytes_eq text word
+abbrev pub is_this_text : List ℕ → Option (List ℕ) → Bool
+is_this_text word None = false
+is_this_text word (Some text) = bytes_eq text word
 
 -- the line asks for this
 abbrev pub asks : List ℕ → Data → Bool
-asks word line = is_text word (text_in (codes "do") line)
+asks word line = is_this_text word (text_in (codes "do") line)
 
 -- ---- grants
 -- the line of this number gave a key a grant
@@ -42,7 +42,7 @@ grant_by number (Some key) (Some octets) = record { line = number; key = key; oc
 -- by a `monitor` line
 abbrev pub grant_asked : ℕ → Data → List GrantFigure
 grant_asked number line =
-    if asks (codes "monitor") line then grant_by number (text_in (codes "key") line) (number_in (codes "grant") line) else []
+    if asks (codes "monitor") line then grant_by number (text_in (codes "key") line) (member_number (codes "grant") line) else []
 
 -- that was done
 abbrev pub grants_done : ℕ → Option RefusalFigure → Option Data → List GrantFigure
@@ -51,7 +51,7 @@ grants_done number None None = []
 grants_done number None (Some line) = grant_asked number line
 
 abbrev pub grants_in : ℕ → Option Data → Data → List GrantFigure
-grants_in number line answer = grants_done number (refusal_in number answer) line
+grants_in number line answer = grants_done number (refusal_shown number answer) line
 
 abbrev pub grant_of : Grant → GrantFigure
 grant_of g = record { line = g.line; key = string_bytes g.key; octets = g.octets }
@@ -68,8 +68,8 @@ abbrev pub key_in : Data → KeyFigure
 key_in d = record {
   key = or_empty (text_in (codes "key") d);
   is_on = flag_in (codes "on") d;
-  reported = or_zero (number_in (codes "reported") d);
-  unreported = or_zero (number_in (codes "unreported") d);
+  reported = or_zero (member_number (codes "reported") d);
+  unreported = or_zero (member_number (codes "unreported") d);
 }
 
 abbrev pub keys_in_all : Items → List KeyFigure
@@ -79,7 +79,7 @@ keys_in_all (item d ds) = key_in d ∷ keys_in_all ds
 -- an answer to `show` has a list of them, which replaces the one before
 abbrev pub keys_shown : List KeyFigure → Option Data → Data → List KeyFigure
 keys_shown before None answer = before
-keys_shown before (Some list) answer = keys_in_all (list_in (codes "keys") answer)
+keys_shown before (Some list) answer = keys_in_all (items_in (codes "keys") answer)
 
 -- where the line was done
 abbrev pub keys_done : List KeyFigure → Option RefusalFigure → Data → List KeyFigure
@@ -87,7 +87,7 @@ keys_done before (Some refused) answer = before
 keys_done before None answer = keys_shown before (get (codes "keys") answer) answer
 
 abbrev pub keys_behind : List KeyFigure → ℕ → Data → List KeyFigure
-keys_behind before number answer = keys_done before (refusal_in number answer) answer
+keys_behind before number answer = keys_done before (refusal_shown number answer) answer
 
 abbrev pub key_of : KeyState → KeyFigure
 key_of k = record { key = string_bytes k.key; is_on = k.is_on; reported = k.reported; unreported = k.unreported }
@@ -96,7 +96,7 @@ key_of k = record { key = string_bytes k.key; is_on = k.is_on; reported = k.repo
 -- the newest of those in the answers to lines that were done
 abbrev pub generation_done : ℕ → Option RefusalFigure → Data → ℕ
 generation_done before (Some refused) answer = before
-generation_done before None answer = max before (or_zero (number_in (codes "generation") answer))
+generation_done before None answer = max before (or_zero (member_number (codes "generation") answer))
 
 abbrev pub generation_behind : ℕ → ℕ → Data → ℕ
-generation_behind before number answer = generation_done before (refusal_in number answer) answer
+generation_behind before number answer = generation_done before (refusal_shown number answer) answer

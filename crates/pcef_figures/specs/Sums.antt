@@ -30,11 +30,11 @@ IsSum octets (Some sum) = sum ≡ octets
 
 -- ---- octets
 -- the octets of the reports of a key
-abbrev pub octets_for : List ℕ → Usage → ℕ
-octets_for key u = if bytes_eq (string_bytes u.key) key then u.octets else 0
+abbrev pub reported_for : List ℕ → Usage → ℕ
+reported_for key u = if bytes_eq (string_bytes u.key) key then u.octets else 0
 
 abbrev pub usage_octets : List ℕ → List Usage → ℕ
-usage_octets key usage = sum_by (octets_for key) usage
+usage_octets key usage = sum_by (reported_for key) usage
 
 -- ---- packets
 -- a packet that passed has a bearer
@@ -66,5 +66,5 @@ weight count.Gated j = if is_gated j.verdict then 1 else 0
 abbrev pub weight_by : Count → List ℕ → Judged → ℕ
 weight_by count rule j = if bytes_eq (string_bytes j.rule) rule then weight count j else 0
 
-abbrev pub counted : Count → List ℕ → List Judged → ℕ
-counted count rule judged = sum_by (weight_by count rule) judged
+abbrev pub counted_for_rule : Count → List ℕ → List Judged → ℕ
+counted_for_rule count rule judged = sum_by (weight_by count rule) judged

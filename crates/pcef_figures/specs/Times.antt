@@ -9,11 +9,11 @@ use Rattle.pcef_figures.specs.declared.figures.Stamp.{Stamp}
 use Rattle.pcef_figures.specs.declared.times.TimesFault.{TimesFault}
 use Rattle.pcef_figures.specs.declared.times.TimesFault.TheVariants as fault
 use Rattle.pcef_figures.specs.Grants.{asks}
-use Rattle.pcef_figures.specs.Pairing.{data_of, filled}
+use Rattle.pcef_figures.specs.Pairing.{json_of, filled}
 
 -- ---- a line of times
-unfoldable pub number_in : ℕ → List ℕ → Option ℕ
-number_in most_digits digits =
+unfoldable pub decimal_in : ℕ → List ℕ → Option ℕ
+decimal_in most_digits digits =
     if nat_lt 0 (length digits) && nat_le (length digits) most_digits && all_ascii_digits digits
     then Some (digits_value 10 digits)
     else None
@@ -28,7 +28,7 @@ nanoseconds_by (Some seconds) (Some rest) = Some (seconds * 1000000000 + rest)
 abbrev pub time_in : List ℕ → Option ℕ
 time_in text =
     if nat_le 11 (length text) && (slice_index_or text (length text - 10) 0 == 46)
-    then nanoseconds_by (number_in 10 (take (length text - 10) text)) (number_in 9 (drop (length text - 9) text))
+    then nanoseconds_by (decimal_in 10 (take (length text - 10) text)) (decimal_in 9 (drop (length text - 9) text))
     else None
 
 -- the place of the first space
@@ -43,7 +43,7 @@ stamp_by line (Some time) (Some frame) = Some (record { line = line; nanoseconds
 -- that of the packet of a line, by a line of times
 abbrev pub stamp_in : ℕ → List ℕ → Option Stamp
 stamp_in line time =
-    stamp_by line (time_in (take (space_in time) time)) (number_in 19 (drop (space_in time + 1) time))
+    stamp_by line (time_in (take (space_in time) time)) (decimal_in 19 (drop (space_in time + 1) time))
 
 -- ---- lines of packets with their times
 abbrev pub is_take : Option Data → Bool
@@ -51,7 +51,7 @@ is_take None = false
 is_take (Some line) = asks (codes "take") line
 
 abbrev pub has_packet : ℕ × List ℕ → Bool
-has_packet line = is_take (data_of line.1)
+has_packet line = is_take (json_of line.1)
 
 -- the lines of a script that take packets
 abbrev pub takes : List ℕ → List (ℕ × List ℕ)

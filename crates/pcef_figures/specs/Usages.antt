@@ -10,15 +10,15 @@ use Rattle.pcef_figures.specs.declared.figures.Usage.{Usage}
 abbrev pub text_in : List ℕ → Data → Option (List ℕ)
 text_in key d = option_and_then as_str (get key d)
 
-abbrev pub number_in : List ℕ → Data → Option ℕ
-number_in key d = option_and_then as_u64 (option_and_then as_number (get key d))
+abbrev pub member_number : List ℕ → Data → Option ℕ
+member_number key d = option_and_then as_u64 (option_and_then as_number (get key d))
 
 abbrev pub or_nothing : Option Items → Items
 or_nothing None = no_items
 or_nothing (Some items) = items
 
-abbrev pub list_in : List ℕ → Data → Items
-list_in key d = or_nothing (option_and_then as_array (get key d))
+abbrev pub items_in : List ℕ → Data → Items
+items_in key d = or_nothing (option_and_then as_array (get key d))
 
 abbrev pub or_empty : Option (List ℕ) → List ℕ
 or_empty None = []
@@ -40,7 +40,7 @@ usage_by number cause (Some key) (Some octets) = record { line = number; key = k
 
 abbrev pub usage_of_report : ℕ → Data → List UsageFigure
 usage_of_report number report =
-    usage_by number (or_empty (text_in (codes "cause") report)) (text_in (codes "key") report) (number_in (codes "octets") report)
+    usage_by number (or_empty (text_in (codes "cause") report)) (text_in (codes "key") report) (member_number (codes "octets") report)
 
 abbrev pub usages_of_all : ℕ → Items → List UsageFigure
 usages_of_all number no_items = []
@@ -48,7 +48,7 @@ usages_of_all number (item report reports) = usage_of_report number report ++ us
 
 -- those that an answer has
 abbrev pub usage_in : ℕ → Data → List UsageFigure
-usage_in number answer = usages_of_all number (list_in (codes "reports") answer)
+usage_in number answer = usages_of_all number (items_in (codes "reports") answer)
 
 abbrev pub usage_figure_of : Usage → UsageFigure
 usage_figure_of u = record { line = u.line; key = string_bytes u.key; cause = string_bytes u.cause; octets = u.octets }
@@ -67,12 +67,12 @@ refusal_by number name (Some fault) refused = Some (record { line = number; name
 refusal_by number name None (Some refused) = Some (record { line = number; name = name; code = refused; is_fault = false })
 refusal_by number name None None = None
 
-abbrev pub refusal_in : ℕ → Data → Option RefusalFigure
-refusal_in number answer =
-    refusal_by number (or_empty (text_in (codes "name") answer)) (number_in (codes "fault") answer) (number_in (codes "refused") answer)
+abbrev pub refusal_shown : ℕ → Data → Option RefusalFigure
+refusal_shown number answer =
+    refusal_by number (or_empty (text_in (codes "name") answer)) (member_number (codes "fault") answer) (member_number (codes "refused") answer)
 
 abbrev pub refusals_in : ℕ → Data → List RefusalFigure
-refusals_in number answer = option_to_list (refusal_in number answer)
+refusals_in number answer = option_to_list (refusal_shown number answer)
 
 abbrev pub refusal_of : Refused → RefusalFigure
 refusal_of r = record { line = r.line; name = string_bytes r.name; code = r.number; is_fault = r.is_fault }

@@ -3,7 +3,7 @@
 ghost use Rattle.std.specs.Prelude.{◌≡◌, ◌++◌, IfOk, OnOk, codes, map, option_map};
 ghost use Rattle.serde_json.specs.View.{view};
 ghost use Rattle.pcef_figures.specs.Grants.{grant_asked, grant_of, key_in, key_of, keys_in_all};
-ghost use Rattle.pcef_figures.specs.Usages.{list_in, refusal_in, refusal_of, usage_of_report, usage_figure_of, usage_in};
+ghost use Rattle.pcef_figures.specs.Usages.{items_in, refusal_shown, refusal_of, usage_of_report, usage_figure_of, usage_in};
 
 use crate::figures::{Grant, Handed, Judged, KeyState, Refused, Usage, Verdict};
 use crate::values::{asks, copy_of, count_at, flag_at, list_at, number_at, text_at};
@@ -16,7 +16,7 @@ pub(crate) fn refused_in(
     line: u64,
     answer: &Value,
 ) -> Result<Option<Refused>, AllocError>
-    ensures { IfOk result (λ refused. option_map refusal_of refused ≡ refusal_in line (view answer.now)) }
+    ensures { IfOk result (λ refused. option_map refusal_of refused ≡ refusal_shown line (view answer.now)) }
 {
     let fault = number_at(answer, "fault");
     let Some(number) = fault.or(number_at(answer, "refused")) else {
@@ -111,7 +111,7 @@ fn key_in(alloc: Global, state: &Value) -> Result<KeyState, AllocError>
 /// The keys of an answer to `show`.
 pub(crate) fn keys_in(alloc: Global, answer: &Value) -> Result<Vec<KeyState>, AllocError>
     ensures { IfOk result (λ keys. map key_of keys.items
-        ≡ keys_in_all (list_in (codes "keys") (view answer.now))) }
+        ≡ keys_in_all (items_in (codes "keys") (view answer.now))) }
 {
     let mut keys = Vec::new(alloc);
     for state in list_at(answer, "keys") {

@@ -2,11 +2,11 @@
 
 ghost use Rattle.std.specs.Prelude.{◌≡◌, ◌≤◌, ◌+◌, ◌-◌, ◌^◌, ◌++◌, [], IfErr, IfOk, IsOk, OnOk, codes, length, map, min, option_map, true};
 ghost use Rattle.serde_json.specs.View.{view};
-ghost use Rattle.pcef_figures.specs.Collecting.{Fails, IsAtFault, IsBlank, IsMismatch, AreFiguresOf};
+ghost use Rattle.pcef_figures.specs.Collecting.{Fails, IsExchangeFault, IsBlank, IsMismatch, AreFiguresOf};
 ghost use Rattle.pcef_figures.specs.Grants.{generation_behind, grant_of, grants_in, key_of, keys_behind};
 ghost use Rattle.pcef_figures.specs.Guarantees.{rates_commanded, rates_in, rules_behind, rules_commanded};
-ghost use Rattle.pcef_figures.specs.Pairing.{data_of, exchanges, filled, is_answer, has_value};
-ghost use Rattle.pcef_figures.specs.Usages.{number_in, refusal_of, refusals_in, usage_figure_of, usage_in};
+ghost use Rattle.pcef_figures.specs.Pairing.{json_of, exchanges, filled, is_answer, has_value};
+ghost use Rattle.pcef_figures.specs.Usages.{member_number, refusal_of, refusals_in, usage_figure_of, usage_in};
 ghost use Rattle.pcef_figures.specs.private.Steps.{IsOtherOrMemory, AddsPackets, TakesDone, TakesLine, AddsExchange, exchange_by};
 
 use crate::answers::{keys_in, push_grant, push_judged, push_usage, refused_in};
@@ -69,7 +69,7 @@ pub struct Collected {
 
 /// The JSON value of a line, if it is one.
 pub(crate) fn value_of(alloc: Global, line: &[u8]) -> Result<Option<Value>, AllocError>
-    ensures { IfOk result (λ value. option_map view value ≡ data_of line.now) }
+    ensures { IfOk result (λ value. option_map view value ≡ json_of line.now) }
 {
     let Ok(text) = str::from_utf8(line) else {
         return Ok(None);
@@ -256,7 +256,7 @@ fn take_octets(
     answer: Filled<'_>,
 ) -> Result<(), CollectFault>
     ensures figures { OnOk result (AddsExchange (exchange_by line.entry answer.entry) collected.old collected.new) }
-    ensures fault { IfErr result (λ fault. IsAtFault fault (exchange_by line.entry answer.entry)) }
+    ensures fault { IfErr result (λ fault. IsExchangeFault fault (exchange_by line.entry answer.entry)) }
 {
     let answer = match value_of(alloc, answer.octets)? {
         Some(answer) if is_answer(&answer) => answer,

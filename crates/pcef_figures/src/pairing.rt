@@ -2,7 +2,7 @@
 
 ghost use Rattle.std.specs.Prelude.{◌≡◌, ◌∷◌, ◌+◌, ◌<◌, ◌≤◌, [], MatchOption, option_map};
 ghost use Rattle.std.specs.List.{list_all};
-ghost use Rattle.pcef_figures.specs.Pairing.{filled, is_blank, is_space};
+ghost use Rattle.pcef_figures.specs.Pairing.{filled, is_unanswered, is_padding};
 ghost use Rattle.pcef_figures.specs.private.Lines.{HasRoom, IsFirstLine, left, lines_left, size};
 
 use memchr::memchr;
@@ -11,14 +11,14 @@ use memchr::memchr;
 const MAX_BLANK: usize = 262_144;
 
 fn is_space(line: &[u8]) -> bool
-    ensures { result ≡ list_all is_space line.now }
+    ensures { result ≡ list_all is_padding line.now }
 {
     line.iter().all(|octet| *octet == b' ' || *octet == b'\t' || *octet == b'\r')
 }
 
 /// Whether a line gets no answer.
 fn is_blank(line: &[u8]) -> bool
-    ensures { result ≡ is_blank line.now }
+    ensures { result ≡ is_unanswered line.now }
 {
     line.len() <= MAX_BLANK && is_space(line)
 }

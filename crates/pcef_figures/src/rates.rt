@@ -3,8 +3,8 @@
 ghost use Rattle.std.specs.Prelude.{◌≡◌, ℕ, List, [], ◌<◌, ◌++◌, ◌==◌, OnOk, IfOk, codes, not, option_map, slice_index, slice_index_or, string_bytes};
 ghost use Rattle.std.specs.Str.{bytes_eq};
 ghost use Rattle.serde_json.specs.View.{view};
-ghost use Rattle.pcef_figures.specs.Guarantees.{RuleFigure, activated, bearers, change_of, changes, down_of, entered, installed, left_by, rate_in, rates_commanded, rule_in, rules_by, rules_commanded, up_of, without};
-ghost use Rattle.pcef_figures.specs.Usages.{number_in};
+ghost use Rattle.pcef_figures.specs.Guarantees.{RuleFigure, with_activated, bearers, rate_change, rate_changes, down_of, with_rule, installed, without_rules_on, guaranteed_in, rates_commanded, rule_in, rules_by, rules_commanded, up_of, without_rule};
+ghost use Rattle.pcef_figures.specs.Usages.{member_number};
 ghost use Rattle.pcef_figures.specs.private.Rules.{rule_of};
 
 use crate::figures::Rates;
@@ -43,7 +43,7 @@ impl Model for ActiveRules {
 
 /// The guaranteed rate of a rule in a direction, in bit/s, or 0.
 fn rate(rule: &Value, direction: &str) -> u64
-    ensures { result ≡ rate_in direction.now (view rule.now) }
+    ensures { result ≡ guaranteed_in direction.now (view rule.now) }
 {
     match rule.get("gbr") {
         Some(gbr) => count_at(gbr, direction),
@@ -75,7 +75,7 @@ impl ActiveRules {
     }
 
     fn forget(&mut self, name: &str)
-        ensures { self.new ≡ without name.now self.old }
+        ensures { self.new ≡ without_rule name.now self.old }
     {
         self.rules.retain(
             |rule: &Active| -> bool
@@ -85,7 +85,7 @@ impl ActiveRules {
     }
 
     fn enter(&mut self, rule: Active) -> Result<(), AllocError>
-        ensures { OnOk result (self.new ≡ entered self.old (rule_of rule)) }
+        ensures { OnOk result (self.new ≡ with_rule self.old (rule_of rule)) }
     {
         self.forget(rule.name.as_str());
         self.rules.push(rule)?;
@@ -111,7 +111,7 @@ impl ActiveRules {
     }
 
     fn activate(&mut self, name: String, bearer: Option<u64>) -> Result<(), AllocError>
-        ensures { OnOk result (self.new ≡ activated self.old (string_bytes name) bearer) }
+        ensures { OnOk result (self.new ≡ with_activated self.old (string_bytes name) bearer) }
     {
         match bearer {
             Some(bearer) => self.enter(Active {
@@ -125,7 +125,7 @@ impl ActiveRules {
     }
 
     fn lose(&mut self, bearer: Option<u64>)
-        ensures { self.new ≡ left_by self.old bearer }
+        ensures { self.new ≡ without_rules_on self.old bearer }
     {
         if let Some(bearer) = bearer {
             self.rules.retain(
@@ -195,7 +195,7 @@ impl ActiveRules {
         before: (u64, u64),
     ) -> Result<(), AllocError>
         ensures { OnOk result ((rules : List RuleFigure) → before ≡ (up_of rules bearer, down_of rules bearer)
-            → rates.new.items ≡ rates.old.items ++ change_of generation rules self.now bearer) }
+            → rates.new.items ≡ rates.old.items ++ rate_change generation rules self.now bearer) }
     {
         let (up, down) = self.sums(bearer);
         if before.0 != up || before.1 != down {
@@ -218,7 +218,7 @@ impl ActiveRules {
     ) -> Result<(), AllocError>
         ensures { OnOk result ((rules : List RuleFigure)
             → ((k : ℕ) → k < 11 → slice_index_or before.now k (0, 0) ≡ (up_of rules (slice_index bearers k), down_of rules (slice_index bearers k)))
-            → rates.new.items ≡ rates.old.items ++ changes generation rules self.now) }
+            → rates.new.items ≡ rates.old.items ++ rate_changes generation rules self.now) }
     {
         for place in 0..11usize {
             self.push_change(rates, generation, BEARERS[place], before[place])?;
@@ -235,9 +235,9 @@ impl ActiveRules {
         answer: &Value,
     ) -> Result<(), AllocError>
         ensures rules { OnOk result (self.new
-            ≡ rules_commanded self.old (number_in (codes "generation") (view answer.now)) (view line.now) (view answer.now)) }
+            ≡ rules_commanded self.old (member_number (codes "generation") (view answer.now)) (view line.now) (view answer.now)) }
         ensures rates { OnOk result (rates.new.items ≡ rates.old.items
-            ++ rates_commanded self.old (number_in (codes "generation") (view answer.now)) (view line.now) (view answer.now)) }
+            ++ rates_commanded self.old (member_number (codes "generation") (view answer.now)) (view line.now) (view answer.now)) }
     {
         let Some(generation) = number_at(answer, "generation") else {
             return Ok(());

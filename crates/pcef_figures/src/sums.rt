@@ -2,7 +2,7 @@
 
 ghost use Rattle.std.specs.Prelude.{◌≡◌, ℕ, List, ◌+◌, IfOk, OnOk, if◌then◌else◌};
 ghost use Rattle.std.specs.Str.{bytes_eq};
-ghost use Rattle.pcef_figures.specs.Sums.{IsSum, counted, sum_in, usage_octets, weight};
+ghost use Rattle.pcef_figures.specs.Sums.{IsSum, counted_for_rule, sum_in, usage_octets, weight};
 
 use crate::figures::{Judged, Usage, Verdict};
 use std::alloc::{AllocError, Global};
@@ -90,7 +90,7 @@ pub fn sums_by_rule<'a>(
     count: Count,
 ) -> Result<Sums<'a>, AllocError>
     ensures { IfOk result (λ sums. (rule : List ℕ)
-        → IsSum (counted count rule judged.now) (sum_in sums rule)) }
+        → IsSum (counted_for_rule count rule judged.now) (sum_in sums rule)) }
 {
     let mut sums = BTreeMap::new(alloc);
     for packet in judged {

@@ -1,8 +1,8 @@
 //! When the packets of a script were recorded.
 
 ghost use Rattle.std.specs.Prelude.{◌≡◌, ◌<◌, ◌≤◌, ◌+◌, ◌^◌, ◌∷◌, [], IfErr, IfOk, IfSome, MatchOption, Some, drop, filter, map, option_map, take};
-ghost use Rattle.pcef_figures.specs.Pairing.{data_of, filled};
-ghost use Rattle.pcef_figures.specs.Times.{FailsTimes, AreStampsOf, has_packet, is_take, number_in, space_in, stamp_in, time_in};
+ghost use Rattle.pcef_figures.specs.Pairing.{json_of, filled};
+ghost use Rattle.pcef_figures.specs.Times.{FailsTimes, AreStampsOf, has_packet, is_take, decimal_in, space_in, stamp_in, time_in};
 ghost use Rattle.pcef_figures.specs.private.Lines.{HasRoom, left, size};
 
 use crate::collecting::value_of;
@@ -52,11 +52,11 @@ impl<T: Drop> From<AllocFailed<T>> for TimesFault {
 }
 
 /// The number that decimal digits write, at least one and at most so many.
-#[tactic(auto, unfolding(crate::specs::Times::number_in))]
+#[tactic(auto, unfolding(crate::specs::Times::decimal_in))]
 fn number_of(digits: &[u8], most_digits: usize) -> Option<u64>
     // Nineteen digits are within 64 bits.
     requires { most_digits ≤ 19 }
-    ensures number { result ≡ number_in most_digits digits.now }
+    ensures number { result ≡ decimal_in most_digits digits.now }
     ensures bound { IfSome result (λ n. n < 10 ^ most_digits) }
 {
     if digits.is_empty() || digits.len() > most_digits {
@@ -115,7 +115,7 @@ fn stamp_of(line: u64, time: &[u8]) -> Option<Stamp>
 
 /// Whether a line takes a packet.
 fn is_take(alloc: Global, line: &[u8]) -> Result<bool, AllocError>
-    ensures { IfOk result (λ takes. takes ≡ is_take (data_of line.now)) }
+    ensures { IfOk result (λ takes. takes ≡ is_take (json_of line.now)) }
 {
     Ok(match value_of(alloc, line)? {
         Some(value) => asks(&value, "take"),

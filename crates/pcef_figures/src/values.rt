@@ -3,7 +3,7 @@
 ghost use Rattle.std.specs.Prelude.{◌≡◌, IfOk, option_map, string_bytes};
 ghost use Rattle.serde_json.specs.View.{items_view, view};
 ghost use Rattle.pcef_figures.specs.Grants.{asks, flag_in, or_zero};
-ghost use Rattle.pcef_figures.specs.Usages.{list_in, number_in, or_empty, text_in};
+ghost use Rattle.pcef_figures.specs.Usages.{items_in, member_number, or_empty, text_in};
 
 use serde_json::Value;
 use std::alloc::{AllocError, Global};
@@ -17,14 +17,14 @@ pub(crate) fn text_at<'a>(object: &'a Value, key: &str) -> Option<&'a str>
 
 /// A member's whole number.
 pub(crate) fn number_at(object: &Value, key: &str) -> Option<u64>
-    ensures { result ≡ number_in key.now (view object.now) }
+    ensures { result ≡ member_number key.now (view object.now) }
 {
     object.get(key).and_then(Value::as_u64)
 }
 
 /// A member's whole number, or 0 where it has none.
 pub(crate) fn count_at(object: &Value, key: &str) -> u64
-    ensures { result ≡ or_zero (number_in key.now (view object.now)) }
+    ensures { result ≡ or_zero (member_number key.now (view object.now)) }
 {
     match number_at(object, key) {
         Some(number) => number,
@@ -54,7 +54,7 @@ pub(crate) fn asks(line: &Value, word: &str) -> bool
 
 /// A member's list.
 pub(crate) fn list_at<'a>(object: &'a Value, key: &str) -> &'a [Value]
-    ensures { items_view result.now ≡ list_in key.now (view object.now) }
+    ensures { items_view result.now ≡ items_in key.now (view object.now) }
 {
     match object.get(key).and_then(Value::as_array) {
         Some(list) => list.as_slice(),

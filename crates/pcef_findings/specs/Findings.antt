@@ -8,7 +8,7 @@ use Rattle.pcef_line.specs.declared.line.Line.TheVariants as line
 use Rattle.pcef_line.specs.declared.fault.LineFault.{LineFault}
 use Rattle.pcef_answer.specs.FaultAnswers.{fault_text}
 use Rattle.pcef_script.specs.ScriptAnswers.{IsDue, LineDue}
-use Rattle.pcef_script.specs.ScriptLines.{is_blank}
+use Rattle.pcef_script.specs.ScriptLines.{is_blank_line}
 use Rattle.pcef_world.specs.Steps.{Reply, Standing, abandon_reply, at_start, attach_reply, command_reply, finish_reply, flush_reply, no_worker, refresh_reply, step_outcome, take_reply}
 use Rattle.pcef_findings.specs.declared.fault.FindFault.{FindFault}
 use Rattle.pcef_findings.specs.declared.fault.FindFault.TheVariants as fault
@@ -17,20 +17,20 @@ use Rattle.pcef_findings.specs.declared.finding.Found.{Found}
 use Rattle.pcef_findings.specs.declared.finding.Found.TheVariants as found
 
 -- why a step isn't made, where its reply refuses it
-abbrev pub found_in : Reply → Option Found
-found_in (command_reply (Ok accepted)) = None
-found_in (command_reply (Err refusal)) = Some (found.Command refusal)
-found_in (attach_reply (Ok worker)) = None
-found_in (attach_reply (Err fault)) = Some (found.Attach fault)
-found_in (refresh_reply generation) = None
-found_in (take_reply (Ok waiting)) = None
-found_in (take_reply (Err full)) = Some (found.Take full)
-found_in (flush_reply (Ok answered)) = None
-found_in (flush_reply (Err refusal)) = Some (found.Flush refusal)
-found_in (finish_reply (Ok answered)) = None
-found_in (finish_reply (Err refusal)) = Some (found.Flush refusal)
-found_in (abandon_reply abandoned) = None
-found_in no_worker = Some found.NoWorker
+abbrev pub finding_in : Reply → Option Found
+finding_in (command_reply (Ok accepted)) = None
+finding_in (command_reply (Err refusal)) = Some (found.Command refusal)
+finding_in (attach_reply (Ok worker)) = None
+finding_in (attach_reply (Err fault)) = Some (found.Attach fault)
+finding_in (refresh_reply generation) = None
+finding_in (take_reply (Ok waiting)) = None
+finding_in (take_reply (Err full)) = Some (found.Take full)
+finding_in (flush_reply (Ok answered)) = None
+finding_in (flush_reply (Err refusal)) = Some (found.Flush refusal)
+finding_in (finish_reply (Ok answered)) = None
+finding_in (finish_reply (Err refusal)) = Some (found.Flush refusal)
+finding_in (abandon_reply abandoned) = None
+finding_in no_worker = Some found.NoWorker
 
 -- the finding on the line of a number, with the script's answer, or none where nothing is found
 abbrev pub IsFindingOf : ℕ → Option Found → List ℕ → Option Finding → Type 0
@@ -41,7 +41,7 @@ IsFindingOf number (Some f) text finding =
 -- a line to which this is due: its step is made as the script makes it, and `show` and a fault change nothing
 abbrev pub FindsDue : Setting → Standing → ℕ → Result Line LineFault → Option Finding → Standing → Type 0
 FindsDue p before number (Ok (line.Step s)) finding after =
-    (text : List ℕ) × IsDue (step_outcome p before s) text after × IsFindingOf number (found_in (step_outcome p before s).0) text finding
+    (text : List ℕ) × IsDue (step_outcome p before s) text after × IsFindingOf number (finding_in (step_outcome p before s).0) text finding
 FindsDue p before number (Ok Show) finding after = (finding ≡ None) × (after ≡ before)
 FindsDue p before number (Err f) finding after = IsFindingOf number (Some (found.Fault f)) (fault_text f) finding × (after ≡ before)
 
@@ -52,8 +52,8 @@ FindsFilled p before number bytes finding after =
 -- a line that is blank gets no answer
 abbrev pub FindsLine : Setting → Standing → ℕ → List ℕ → Option Finding → Standing → Type 0
 FindsLine p before number bytes finding after =
-    ((is_blank bytes ≡ true) × (finding ≡ None) × (after ≡ before))
-    ⊎ ((is_blank bytes ≡ false) × FindsFilled p before number bytes finding after)
+    ((is_blank_line bytes ≡ true) × (finding ≡ None) × (after ≡ before))
+    ⊎ ((is_blank_line bytes ≡ false) × FindsFilled p before number bytes finding after)
 
 abbrev pub as_list : Option Finding → List Finding
 as_list None = []

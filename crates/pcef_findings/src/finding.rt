@@ -2,7 +2,7 @@
 
 ghost use Rattle.std.specs.Prelude.{◌≡◌};
 ghost use Rattle.pcef_world.specs.Steps.{reply_of};
-ghost use Rattle.pcef_findings.specs.Findings.{found_in};
+ghost use Rattle.pcef_findings.specs.Findings.{finding_in};
 
 use pcef_line::LineFault;
 use pcef_model::{AttachFault, FlushRefusal, Refusal};
@@ -53,7 +53,7 @@ pub struct Finding {
 
 /// Why a step isn't made, if it is refused.
 pub(crate) fn found_in(answer: &StepAnswer) -> Option<Found>
-    ensures { result ≡ found_in (reply_of answer.now) }
+    ensures { result ≡ finding_in (reply_of answer.now) }
 {
     match answer {
         StepAnswer::Command(Err(refusal)) => Some(Found::Command(*refusal)),

@@ -18,7 +18,7 @@ use Rattle.pcef_catalog.specs.Shapes.{shape_holds, shape_ignores_volume, test_ho
 use Rattle.pcef_table.specs.declared.entry.Source.{Source}
 use Rattle.pcef_table.specs.declared.entry.Source.TheVariants.{Dynamic, Predefined}
 use Rattle.pcef_table.specs.declared.entry.TableEntry.{TableEntry}
-use Rattle.pcef_table.specs.Sources.{fits}
+use Rattle.pcef_table.specs.Sources.{source_fits}
 use Rattle.pcef_index.specs.Places.{IsFirstPlace}
 use Rattle.pcef_flow.specs.Flows.{all_ignore_volume, flow_of, ignores_volume}
 
@@ -65,22 +65,22 @@ filters_alike ue h [] = refl
 filters_alike ue h (f ∷ fs) =
     ap (λ b. b || list_any (λ g. matches g ue h) fs) (filter_alike f ue h) ∙ ap (λ b. matches f ue (flow_of h) || b) (filters_alike ue h fs)
 
-source_alike : (offers : List Offer) (ue : Addr) (h : Header) (s : Source) → ignores_volume offers s ≡ true → fits offers ue h s ≡ fits offers ue (flow_of h) s
+source_alike : (offers : List Offer) (ue : Addr) (h : Header) (s : Source) → ignores_volume offers s ≡ true → source_fits offers ue h s ≡ source_fits offers ue (flow_of h) s
 source_alike offers ue h (Dynamic rule) ignores = filters_alike ue h rule.filters
 source_alike offers ue h (Predefined index) ignores = offer_alike h (slice_get offers index) ignores
 
 found_alike : (offers : List Offer) (ue : Addr) (h : Header) (es : List TableEntry) → all_ignore_volume offers es ≡ true
-    → find (λ (e : TableEntry). fits offers ue h e.source) es ≡ find (λ (e : TableEntry). fits offers ue (flow_of h) e.source) es
+    → find (λ (e : TableEntry). source_fits offers ue h e.source) es ≡ find (λ (e : TableEntry). source_fits offers ue (flow_of h) e.source) es
 found_alike offers ue h [] ignore = refl
 found_alike offers ue h (e ∷ es) ignore =
     let parts = and_parts (ignores_volume offers e.source) (all_ignore_volume offers es) ignore in
-    ap (λ b. if b then Some e else find (λ (f : TableEntry). fits offers ue h f.source) es) (source_alike offers ue h e.source parts.0)
-    ∙ ap (λ o. if fits offers ue (flow_of h) e.source then Some e else o) (found_alike offers ue h es parts.1)
+    ap (λ b. if b then Some e else find (λ (f : TableEntry). source_fits offers ue h f.source) es) (source_alike offers ue h e.source parts.0)
+    ∙ ap (λ o. if source_fits offers ue (flow_of h) e.source then Some e else o) (found_alike offers ue h es parts.1)
 
 -- the place that is first for one packet of a flow is so for each
 pub flow_decides : (offers : List Offer) (es : List TableEntry) (ue : Addr) (h k : Header) (place : Option ℕ) → all_ignore_volume offers es ≡ true
     → flow_of h ≡ flow_of k → IsFirstPlace offers es ue k place → IsFirstPlace offers es ue h place
 flow_decides offers es ue h k place ignore same first =
     first ∙ found_alike offers ue k es ignore
-    ∙ ap (λ (f : Header). find (λ (e : TableEntry). fits offers ue f e.source) es) (sym same)
+    ∙ ap (λ (f : Header). find (λ (e : TableEntry). source_fits offers ue f e.source) es) (sym same)
     ∙ sym (found_alike offers ue h es ignore)

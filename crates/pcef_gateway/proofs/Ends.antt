@@ -25,8 +25,8 @@ use Rattle.pcef_gateway.specs.Arriving.{headers_for}
 use Rattle.pcef_gateway.specs.Commanding.{HaveAnswers, changing}
 use Rattle.pcef_gateway.specs.Ending.{RunsTo}
 use Rattle.pcef_gateway.specs.InOrder.{commands_of, lane_headers, reports_of}
-use Rattle.pcef_gateway.specs.Sending.{HandInArrivals, rows_of}
-use Rattle.pcef_gateway.specs.Serving.{header_of}
+use Rattle.pcef_gateway.specs.Sending.{HandInArrivals, row_count}
+use Rattle.pcef_gateway.specs.Serving.{item_header}
 use Rattle.pcef_gateway.specs.declared.arrivals.Arrival.{Arrival}
 use Rattle.pcef_gateway.specs.declared.ended.Ended.{Ended}
 use Rattle.pcef_gateway.proofs.Splitting.{sums_up}
@@ -57,13 +57,13 @@ own_rows j handed w d numbered within has =
     some_once (map row_of (get_or handed w d).items) (reverse (lane j w))
     (sym (ap (option_map (λ (h : HandedIn). map row_of h.items)) found) ∙ has)
 
-headers_of_rows : (items : List Item) → map (λ (r : Row). r.header) (map row_of items) ≡ map header_of items
+headers_of_rows : (items : List Item) → map (λ (r : Row). r.header) (map row_of items) ≡ map item_header items
 headers_of_rows [] = refl
 headers_of_rows (i ∷ items) = ap (λ (hs : List Header). i.row.header ∷ hs) (headers_of_rows items)
 
-sum_of_rows : (handed : List HandedIn) → sum_by rows_of handed ≡ sum_by (λ (h : HandedIn). length h.items) handed + rows_abandoned handed
+sum_of_rows : (handed : List HandedIn) → sum_by row_count handed ≡ sum_by (λ (h : HandedIn). length h.items) handed + rows_abandoned handed
 sum_of_rows [] = refl
-sum_of_rows (h ∷ handed) = omega (arith, sum_by-cons rows_of h handed, sum_by-cons (λ (x : HandedIn). length x.items) h handed, sum_by-cons abandoned_by h handed, sum_of_rows handed)
+sum_of_rows (h ∷ handed) = omega (arith, sum_by-cons row_count h handed, sum_by-cons (λ (x : HandedIn). length x.items) h handed, sum_by-cons abandoned_by h handed, sum_of_rows handed)
 
 -- each row stands in what one worker handed in
 rows_sum : (p : Setting) (j : Journal) (handed : List HandedIn) (d : HandedIn) → Lawful p j → ((n : ℕ) → n < length handed → (get_or handed n d).worker ≡ n) → length handed ≡ attach_count j
@@ -101,7 +101,7 @@ runs_to p before arrivals given first listed workers dropped handed e add_up com
       lanes = λ w within.
           let there : w < length handed = omega (arith, within, hand_in.many) in
           let came : w < attach_count j = omega (arith, there, add_up.many) in
-          let own : map header_of (get_or handed w d).items ≡ lane_headers j w =
+          let own : map item_header (get_or handed w d).items ≡ lane_headers j w =
           sym (headers_of_rows (get_or handed w d).items) ∙ ap (map (λ (r : Row). r.header)) (own_rows j handed w d numbered there (agree.0 w came)) in
           subst (λ hs. IsPrefix hs (headers_for w arrivals)) own (hand_in.first w d there);
       whole = omega (arith, add_up.rest.rows_are, add_up.rest.abandoned_are, dropped_is, hand_in.whole, sum_of_rows handed, sum);

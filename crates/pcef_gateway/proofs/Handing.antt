@@ -10,8 +10,8 @@ use Rattle.std.proofs.Math.Seq.{get_or-append_seam}
 use Rattle.pcef_packet.specs.declared.header.Header.{Header}
 use Rattle.pcef_lock.specs.HandedIn.{HandedIn}
 use Rattle.pcef_gateway.specs.Arriving.{headers_for}
-use Rattle.pcef_gateway.specs.Sending.{HandInArrivals, HandInTheirs, rows_of}
-use Rattle.pcef_gateway.specs.Serving.{HandsIn, header_of}
+use Rattle.pcef_gateway.specs.Sending.{HandInArrivals, HandInTheirs, row_count}
+use Rattle.pcef_gateway.specs.Serving.{HandsIn, item_header}
 use Rattle.pcef_gateway.specs.declared.arrivals.Arrival.{Arrival}
 use Rattle.pcef_gateway.proofs.Splitting.{sums_up}
 
@@ -54,16 +54,16 @@ one_more sent dropped handed s more h so_far own is = record {
   first = λ w d within. elim (last_or_before handed h d w within) [
     | inl p ↦
         let there : w < length sent = omega (arith, p.0, so_far.many) in
-        let before : IsPrefix (map header_of (get_or (handed ++ h ∷ []) w d).items) (get_or sent w []) =
-        subst (λ (x : HandedIn). IsPrefix (map header_of x.items) (get_or sent w [])) (sym p.1) (so_far.first w d p.0) in
-        subst (λ xs. IsPrefix (map header_of (get_or (handed ++ h ∷ []) w d).items) xs) (sym (get_or_append_left sent (s ∷ []) [] w there)) before
+        let before : IsPrefix (map item_header (get_or (handed ++ h ∷ []) w d).items) (get_or sent w []) =
+        subst (λ (x : HandedIn). IsPrefix (map item_header x.items) (get_or sent w [])) (sym p.1) (so_far.first w d p.0) in
+        subst (λ xs. IsPrefix (map item_header (get_or (handed ++ h ∷ []) w d).items) xs) (sym (get_or_append_left sent (s ∷ []) [] w there)) before
     | inr p ↦
         let here : get_or (sent ++ s ∷ []) w [] ≡ s = ap (λ n. get_or (sent ++ s ∷ []) n []) (p.0 ∙ so_far.many) ∙ get_or-append_seam sent s [] [] in
-        let begins : IsPrefix (map header_of h.items) s = (drop (length h.items) s, ap (λ xs. xs ++ drop (length h.items) s) is.first ∙ take-append-drop (length h.items) s) in
-        let last : IsPrefix (map header_of (get_or (handed ++ h ∷ []) w d).items) s = subst (λ (x : HandedIn). IsPrefix (map header_of x.items) s) (sym p.1) begins in
-        subst (λ xs. IsPrefix (map header_of (get_or (handed ++ h ∷ []) w d).items) xs) (sym here) last
+        let begins : IsPrefix (map item_header h.items) s = (drop (length h.items) s, ap (λ xs. xs ++ drop (length h.items) s) is.first ∙ take-append-drop (length h.items) s) in
+        let last : IsPrefix (map item_header (get_or (handed ++ h ∷ []) w d).items) s = subst (λ (x : HandedIn). IsPrefix (map item_header x.items) s) (sym p.1) begins in
+        subst (λ xs. IsPrefix (map item_header (get_or (handed ++ h ∷ []) w d).items) xs) (sym here) last
   ];
-  whole = omega (arith, sum_by_push length sent s, sum_by_push rows_of handed h, so_far.whole, is.whole);
+  whole = omega (arith, sum_by_push length sent s, sum_by_push row_count handed h, so_far.whole, is.whole);
 }
 
 -- where it was added
@@ -89,6 +89,6 @@ of_arrivals first sent arrivals dropped handed empty many each known is =
     record {
       many = is.many ∙ many;
       numbered = is.numbered;
-      first = λ w d within. subst (λ xs. IsPrefix (map header_of (get_or handed w d).items) xs) (own w (omega (arith, within, many, is.many))) (is.first w d within);
+      first = λ w d within. subst (λ xs. IsPrefix (map item_header (get_or handed w d).items) xs) (own w (omega (arith, within, many, is.many))) (is.first w d within);
       whole = sym (sums_up (λ (a : Arrival). a.worker) length arrivals sent [] counts lower) ∙ is.whole;
     }

@@ -5,26 +5,26 @@ use Rattle.std.proofs.lemmas.List.{length-append, length-map, map-append, take-a
 use Rattle.std.proofs.Math.Seq.{take-append_seam, take-length}
 use Rattle.pcef_packet.specs.declared.header.Header.{Header}
 use Rattle.pcef_lock.specs.HandedIn.{HandedIn}
-use Rattle.pcef_worker.specs.Working.{WorkerModel, abandoned, finished}
-use Rattle.pcef_gateway.specs.Serving.{HandsIn, header_of}
-use Rattle.pcef_gateway.specs.Taking.{taken}
+use Rattle.pcef_worker.specs.Working.{WorkerModel, abandoned, finished_hand_in}
+use Rattle.pcef_gateway.specs.Serving.{HandsIn, item_header}
+use Rattle.pcef_gateway.specs.Taking.{taken_headers}
 
-pub handed_all : (w : WorkerModel) → HandsIn (taken w) 0 (finished w)
+pub handed_all : (w : WorkerModel) → HandsIn (taken_headers w) 0 (finished_hand_in w)
 handed_all w =
     let all = w.rows ++ w.waiting in
     record {
-      first = sym (take-length (map header_of all)) ∙ ap (λ n. take n (map header_of all)) (length-map all header_of);
-      whole = omega (arith, length-map all header_of);
+      first = sym (take-length (map item_header all)) ∙ ap (λ n. take n (map item_header all)) (length-map all item_header);
+      whole = omega (arith, length-map all item_header);
     }
 
-pub handed_some : (w : WorkerModel) → HandsIn (taken w) 0 (abandoned w)
+pub handed_some : (w : WorkerModel) → HandsIn (taken_headers w) 0 (abandoned w)
 handed_some w =
-    let own = map header_of w.rows in
-    let others = map header_of w.waiting in
-    let split : taken w ≡ own ++ others = map-append header_of w.rows w.waiting in
+    let own = map item_header w.rows in
+    let others = map item_header w.waiting in
+    let split : taken_headers w ≡ own ++ others = map-append item_header w.rows w.waiting in
     record {
-      first = sym (ap (λ xs. take (length w.rows) xs) split ∙ ap (λ n. take n (own ++ others)) (sym (length-map w.rows header_of)) ∙ take-append_seam own others);
-      whole = omega (arith, length-map (w.rows ++ w.waiting) header_of, length-append w.rows w.waiting);
+      first = sym (ap (λ xs. take (length w.rows) xs) split ∙ ap (λ n. take n (own ++ others)) (sym (length-map w.rows item_header)) ∙ take-append_seam own others);
+      whole = omega (arith, length-map (w.rows ++ w.waiting) item_header, length-append w.rows w.waiting);
     }
 
 -- the packets that arrive after them are dropped

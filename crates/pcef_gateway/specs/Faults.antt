@@ -9,15 +9,15 @@ use Rattle.pcef_gateway.specs.declared.fault.Failure.TheVariants as failure
 use Rattle.pcef_gateway.specs.declared.fault.RunFault.{RunFault}
 use Rattle.pcef_gateway.specs.declared.fault.RunFault.TheVariants.{Attach, Gather, NoMemory, Ring, Shared, StrangeWorker, Thread, Workers}
 
-abbrev pub number_of : RunFault → ℕ
-number_of Workers = 1
-number_of StrangeWorker = 2
-number_of Shared = 3
-number_of Ring = 4
-number_of Attach = 5
-number_of Thread = 6
-number_of Gather = 7
-number_of NoMemory = 8
+abbrev pub run_fault_number : RunFault → ℕ
+run_fault_number Workers = 1
+run_fault_number StrangeWorker = 2
+run_fault_number Shared = 3
+run_fault_number Ring = 4
+run_fault_number Attach = 5
+run_fault_number Thread = 6
+run_fault_number Gather = 7
+run_fault_number NoMemory = 8
 
 -- ---- for private clauses
 -- the fault that is reported for a failure

@@ -5,11 +5,11 @@ use Rattle.pcef_session.specs.declared.batch.Item.{Item}
 use Rattle.pcef_lock.specs.HandedIn.{HandedIn, abandoned_by}
 
 -- the packet of a row
-abbrev pub header_of : Item → Header
-header_of i = i.row.header
+abbrev pub item_header : Item → Header
+item_header i = i.row.header
 
 -- of these packets a worker handed in the first; the others were abandoned, or are among the
 -- `dropped` ones
 pub record HandsIn (packets : List Header) (dropped : ℕ) (h : HandedIn) : Type 0 where
-  pub first : map header_of h.items ≡ take (length h.items) packets
+  pub first : map item_header h.items ≡ take (length h.items) packets
   pub whole : length packets ≡ length h.items + abandoned_by h + dropped

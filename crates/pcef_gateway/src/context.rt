@@ -6,7 +6,7 @@ ghost use Rattle.pcef_gateway.specs.Arriving.{headers_for};
 ghost use Rattle.pcef_gateway.specs.Commanding.{FoundMemory, HaveAnswers};
 ghost use Rattle.pcef_lock.specs.Desks.{listed};
 ghost use Rattle.pcef_gateway.specs.Sending.{HandInArrivals};
-ghost use Rattle.pcef_gateway.specs.Taking.{taken};
+ghost use Rattle.pcef_gateway.specs.Taking.{taken_headers};
 
 use crate::arrivals::Arrival;
 use crate::ended::CommandAnswer;
@@ -82,7 +82,7 @@ impl<
 > RunContext<'s, C, N, W, G, R> {
     /// Attaches the worker of this number, to which the gate is lent.
     fn attach(&self, number: u8) -> Result<Worker<C, N, GateRef<'s, G>>, Failure>
-        ensures { IfOk result (λ w. taken w ≡ []) }
+        ensures { IfOk result (λ w. taken_headers w ≡ []) }
     {
         let gate = GateRef::new(self.gate);
         let worker = Worker::attach(self.rt, self.alloc, self.shared, gate)?;

@@ -1,7 +1,7 @@
 //! Why a run of a session failed.
 
 ghost use Rattle.std.specs.Prelude.{◌≡◌};
-ghost use Rattle.pcef_gateway.specs.Faults.{number_of, run_fault_of};
+ghost use Rattle.pcef_gateway.specs.Faults.{run_fault_number, run_fault_of};
 
 use pcef_lock::SharedFault;
 use pcef_model::AttachFault;
@@ -57,7 +57,7 @@ impl Error for RunFault {}
 impl RunFault {
     /// The number of the fault, from 1 to 8.
     pub fn number(self) -> u8
-        ensures { result ≡ number_of self }
+        ensures { result ≡ run_fault_number self }
     {
         match self {
             RunFault::Workers => 1,

@@ -4,7 +4,7 @@ ghost use Rattle.std.specs.Prelude.{◌≡◌, ◌+◌, ◌++◌, ◌∷◌, ◌
 ghost use mathlib.Core.List.{IsPrefix};
 ghost use Rattle.rtrb.specs.Ring.{SameConsumer, received};
 ghost use Rattle.pcef_gateway.specs.Serving.{HandsIn};
-ghost use Rattle.pcef_gateway.specs.Taking.{taken};
+ghost use Rattle.pcef_gateway.specs.Taking.{taken_headers};
 
 use pcef_catalog::Detects;
 use pcef_lock::{Finished, Shared};
@@ -53,7 +53,7 @@ fn flush<C: Detects + Drop, N: Naming, W: Board<Cell<N>> + Drop, G: Gate + Drop,
     shared: &Shared<C, N, W>,
     worker: &mut Worker<C, N, G>,
 ) -> Result<(), FlushRefusal>
-    ensures taken { taken worker.new ≡ taken worker.old }
+    ensures taken { taken_headers worker.new ≡ taken_headers worker.old }
     ensures waiting { OnOk result (worker.new.waiting ≡ []) }
 {
     match worker.flush(rt, shared) {
@@ -68,7 +68,7 @@ fn make_room<C: Detects + Drop, N: Naming, W: Board<Cell<N>> + Drop, G: Gate + D
     shared: &Shared<C, N, W>,
     worker: &mut Worker<C, N, G>,
 ) -> Result<(), FlushRefusal>
-    ensures taken { taken worker.new ≡ taken worker.old }
+    ensures taken { taken_headers worker.new ≡ taken_headers worker.old }
     ensures room { OnOk result (length worker.new.waiting < 32) }
 {
     if worker.waiting().len() < MAX_WAITING {
@@ -81,7 +81,7 @@ fn make_room<C: Detects + Drop, N: Naming, W: Board<Cell<N>> + Drop, G: Gate + D
 /// sent to an idle worker after a command was answered is judged by what that command made.
 fn take<C: Detects + Drop, N: Naming, G: Gate + Drop>(worker: &mut Worker<C, N, G>, header: Header)
     requires { length worker.old.waiting < 32 }
-    ensures { taken worker.new ≡ taken worker.old ++ header ∷ [] }
+    ensures { taken_headers worker.new ≡ taken_headers worker.old ++ header ∷ [] }
 {
     if worker.waiting().is_empty() {
         worker.refresh();
@@ -98,7 +98,7 @@ fn flush_or_yield<C: Detects + Drop, N: Naming, W: Board<Cell<N>> + Drop, G: Gat
     shared: &Shared<C, N, W>,
     worker: &mut Worker<C, N, G>,
 ) -> Result<(), FlushRefusal>
-    ensures { taken worker.new ≡ taken worker.old }
+    ensures { taken_headers worker.new ≡ taken_headers worker.old }
 {
     if worker.waiting().is_empty() {
         thread::yield_now();
@@ -115,9 +115,9 @@ fn serve_next<C: Detects + Drop, N: Naming, W: Board<Cell<N>> + Drop, G: Gate + 
     worker: &mut Worker<C, N, G>,
     consumer: &mut Consumer<Header>,
 ) -> Result<bool, FlushRefusal>
-    requires { taken worker.old ≡ received consumer.old }
+    requires { taken_headers worker.old ≡ received consumer.old }
     ensures ring { SameConsumer consumer.old consumer.new }
-    ensures taken { taken worker.new ≡ received consumer.new }
+    ensures taken { taken_headers worker.new ≡ received consumer.new }
 {
     make_room(rt, shared, worker)?;
     let gone = consumer.is_abandoned();
@@ -140,9 +140,9 @@ fn serve<C: Detects + Drop, N: Naming, W: Board<Cell<N>> + Drop, G: Gate + Drop,
     worker: &mut Worker<C, N, G>,
     consumer: &mut Consumer<Header>,
 ) -> Result<(), FlushRefusal>
-    requires { taken worker.old ≡ received consumer.old }
+    requires { taken_headers worker.old ≡ received consumer.old }
     ensures ring { SameConsumer consumer.old consumer.new }
-    ensures taken { taken worker.new ≡ received consumer.new }
+    ensures taken { taken_headers worker.new ≡ received consumer.new }
 {
     for _ in rt.forever() {
         if !serve_next(rt, shared, worker, consumer)? {
@@ -184,7 +184,7 @@ fn leave<C: Detects + Drop, N: Naming, W: Board<Cell<N>> + Drop, G: Gate + Drop,
     shared: &Shared<C, N, W>,
     worker: Worker<C, N, G>,
 ) -> (Finished<N>, bool)
-    ensures { HandsIn (taken worker) 0 result.0 }
+    ensures { HandsIn (taken_headers worker) 0 result.0 }
 {
     match worker.finish(rt, shared) {
         Ok((finished, _)) => (finished, false),
@@ -222,7 +222,7 @@ pub(crate) fn work<C: Detects + Drop, N: Naming, W: Board<Cell<N>> + Drop, G: Ga
     worker: Worker<C, N, G>,
     consumer: Consumer<Header>,
 ) -> WorkerEnd<N>
-    requires new { taken worker ≡ [] }
+    requires new { taken_headers worker ≡ [] }
     requires first { received consumer ≡ [] }
     ensures { SameConsumer consumer result.consumer }
 {

@@ -3,7 +3,7 @@
 ghost use Rattle.std.specs.Prelude.{◌≡◌, ◌++◌, ◌∷◌, [], IfOk};
 ghost use Rattle.rtrb.specs.Ring.{SameConsumer, received};
 ghost use Rattle.pcef_gateway.specs.Serving.{HandsIn};
-ghost use Rattle.pcef_gateway.specs.Taking.{taken};
+ghost use Rattle.pcef_gateway.specs.Taking.{taken_headers};
 
 use crate::fault::Failure;
 use crate::gate_ref::GateRef;
@@ -78,7 +78,7 @@ fn thread_of<
     worker: Worker<C, N, GateRef<'s, G>>,
     consumer: Consumer<Header>,
 ) -> Result<PromisedHandle<WorkerEnd<N>, SameRing>, Failure>
-    requires new { taken worker ≡ [] }
+    requires new { taken_headers worker ≡ [] }
     requires first { received consumer ≡ [] }
     ensures { IfOk result (λ handle. handle.promise.end.value ≡ consumer) }
 {
@@ -86,7 +86,7 @@ fn thread_of<
         end: Snapshot::of(&consumer),
     };
     let job = move || -> WorkerEnd<N>
-        requires new { taken worker ≡ [] }
+        requires new { taken_headers worker ≡ [] }
         requires first { received consumer ≡ [] }
         ensures { SameConsumer consumer result.consumer }
     { work(rt, shared, worker, consumer) };
@@ -112,7 +112,7 @@ impl<N: Naming + Send + Sync> WorkerRing<N> {
         shared: &'s Shared<C, N, W>,
         worker: Worker<C, N, GateRef<'s, G>>,
     ) -> Result<WorkerRing<N>, Failure>
-        requires { taken worker ≡ [] }
+        requires { taken_headers worker ≡ [] }
         ensures { IfOk result (λ ring. ring ≡ []) }
     {
         match RingBuffer::new(alloc, PLACES) {

@@ -3,7 +3,7 @@ use Rattle.std.proofs.Common.{◌≡◌, ◌∙◌, ◌+◌, ℕ, zero, suc, Boo
 use Rattle.std.specs.Prelude.{Option, find, option_map, slice_get, if◌then◌else◌}
 use Rattle.std.specs.List.{AllByRecursion}
 use Rattle.std.proofs.lemmas.Bool.{cases_Bool}
-use Rattle.pcef_active.specs.ByName.{Kept, is_kept_as}
+use Rattle.pcef_active.specs.ByName.{NamedSource, is_kept_as}
 use Rattle.pcef_catalog.specs.declared.listing.Offer.{Offer}
 use Rattle.pcef_model.specs.ActiveRules.{Active, dynamic, is_named, predefined}
 use Rattle.pcef_model.specs.Commands.{is_among}
@@ -12,7 +12,7 @@ use Rattle.pcef_model.specs.Journals.{now, slots}
 use Rattle.pcef_model.specs.Setting.{Setting, same_name}
 use Rattle.pcef_rule.specs.Definition.{Definition}
 use Rattle.pcef_session.specs.Agreement.{AreKept, KeyAgrees, KeysAgree}
-use Rattle.pcef_session.specs.Shown.{rule_of}
+use Rattle.pcef_session.specs.Shown.{entry_rule}
 use Rattle.pcef_table.specs.declared.entry.Source.{Source}
 use Rattle.pcef_table.specs.declared.entry.Source.TheVariants.{Dynamic, Predefined}
 use Rattle.pcef_usage.specs.declared.usage.KeyState.{KeyState}
@@ -25,12 +25,12 @@ offered : (o : Option Offer) (r : Active) → option_map predefined o ≡ Some r
 offered None r is = absurd cc
 offered (Some o) r is = let e : predefined o ≡ r = cc in rw (← e) refl
 
-one_definition : (offers : List Offer) (source : Source) (r : Active) → rule_of offers source ≡ Some r → definition_of source ≡ definition_if (Some r)
+one_definition : (offers : List Offer) (source : Source) (r : Active) → entry_rule offers source ≡ Some r → definition_of source ≡ definition_if (Some r)
 one_definition offers (Dynamic rule) r is = let e : dynamic rule ≡ r = cc in rw (← e) refl
 one_definition offers (Predefined place) r is = offered (slice_get offers place) r is
 
 -- the rule of a name is kept by it
-pub kept_active : (offers : List Offer) (name : List ℕ) (kept : List Kept) (rules : List Active) → AreKept offers kept rules →
+pub kept_active : (offers : List Offer) (name : List ℕ) (kept : List NamedSource) (rules : List Active) → AreKept offers kept rules →
     kept_definition name kept ≡ definition_if (find (is_named name) rules)
 kept_active offers name [] [] are = refl
 kept_active offers name [] (r ∷ rules) are = absurd are
@@ -57,7 +57,7 @@ keys_are_on p j states agree = on_are p j states agree.usage_is ∙ ap (λ keys.
 
 -- ---- places
 -- what is kept from a place on: the rule there, or one behind it
-pub kept_from : (name : List ℕ) (kept : List Kept) (place : ℕ) (e : Kept) → slice_get kept place ≡ Some e →
+pub kept_from : (name : List ℕ) (kept : List NamedSource) (place : ℕ) (e : NamedSource) → slice_get kept place ≡ Some e →
     kept_definition name (drop place kept) ≡ (if is_kept_as name e then definition_of e.1 else kept_definition name (drop (place + 1) kept))
 kept_from name [] place e is = absurd cc
 kept_from name (first ∷ kept) zero e is =
@@ -69,17 +69,17 @@ kept_from name (first ∷ kept) zero e is =
 kept_from name (first ∷ kept) (suc place) e is = let more : suc place + 1 ≡ suc (place + 1) = omega arith in rw more (kept_from name kept place e is)
 
 -- behind the last place there is nothing
-pub kept_past : (name : List ℕ) (kept : List Kept) (place : ℕ) → slice_get kept place ≡ None →
+pub kept_past : (name : List ℕ) (kept : List NamedSource) (place : ℕ) → slice_get kept place ≡ None →
     kept_definition name (drop (place + 1) kept) ≡ kept_definition name (drop place kept)
 kept_past name [] zero none = refl
 kept_past name [] (suc place) none = let more : suc place + 1 ≡ suc (place + 1) = omega arith in rw more refl
 kept_past name (first ∷ kept) zero none = absurd cc
 kept_past name (first ∷ kept) (suc place) none = let more : suc place + 1 ≡ suc (place + 1) = omega arith in rw more (kept_past name kept place none)
 
-pub kept_here : (name : List ℕ) (kept : List Kept) (place : ℕ) (e : Kept) → slice_get kept place ≡ Some e → is_kept_as name e ≡ true →
+pub kept_here : (name : List ℕ) (kept : List NamedSource) (place : ℕ) (e : NamedSource) → slice_get kept place ≡ Some e → is_kept_as name e ≡ true →
     kept_definition name (drop place kept) ≡ definition_of e.1
 kept_here name kept place e is hit = kept_from name kept place e is ∙ (rw hit refl)
 
-pub kept_later : (name : List ℕ) (kept : List Kept) (place : ℕ) (e : Kept) → slice_get kept place ≡ Some e → is_kept_as name e ≡ false →
+pub kept_later : (name : List ℕ) (kept : List NamedSource) (place : ℕ) (e : NamedSource) → slice_get kept place ≡ Some e → is_kept_as name e ≡ false →
     kept_definition name (drop place kept) ≡ kept_definition name (drop (place + 1) kept)
 kept_later name kept place e is miss = kept_from name kept place e is ∙ (rw miss refl)

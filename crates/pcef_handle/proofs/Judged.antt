@@ -13,12 +13,12 @@ use Rattle.pcef_session.specs.Answers.{ShowsNewest}
 use Rattle.pcef_session.specs.SessionModel.{SessionModel}
 use Rattle.pcef_session.proofs.ShownSlots.{shown_slots_of}
 use Rattle.pcef_session.proofs.ShownVerdicts.{shown_judges}
-use Rattle.pcef_handle.specs.Judging.{IsJudged}
+use Rattle.pcef_handle.specs.Judging.{IsJudgementOf}
 use Rattle.pcef_handle.specs.declared.judging.Judgement.{Judgement}
 
 pub judged_newest : (s : SessionModel) (offers : List Offer) (ue : Addr) (header : Header) (newest : TableValue) (d : Judgement) → ShowsNewest s newest
     → offers ≡ s.setting.catalog → ue ≡ s.setting.ue → d.generation ≡ newest.number
-    → IsVerdict offers newest.entries ue header d.verdict → d.slots.items ≡ slots_counted offers newest d.verdict → IsPlaced offers newest.entries d.verdict d.place → IsJudged s header d
+    → IsVerdict offers newest.entries ue header d.verdict → d.slots.items ≡ slots_counted offers newest d.verdict → IsPlaced offers newest.entries d.verdict d.place → IsJudgementOf s header d
 judged_newest s offers ue header newest d shows offered ue_is generation judged slots_are placed =
     let g = gen s.journal in
     let once = made_once s.setting (oldest g (tables s.journal)) in

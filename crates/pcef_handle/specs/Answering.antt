@@ -35,11 +35,11 @@ AnswersInto old line before (Err NoMemory) new after = StaysOpen old new × Lack
 AnswersInto old line before (Err other) new after = ⊥
 
 -- in the session of a handle, which stays open; this refusal, where there is none
-abbrev pub InSession : Option OpenSession → Option OpenSession → (OpenSession → OpenSession → Type 0) → Type 0 → Type 0
-InSession (Some s) (Some t) P none = P s t
-InSession None None P none = none
-InSession s t P none = ⊥
+abbrev pub InOpenSession : Option OpenSession → Option OpenSession → (OpenSession → OpenSession → Type 0) → Type 0 → Type 0
+InOpenSession (Some s) (Some t) P none = P s t
+InOpenSession None None P none = none
+InOpenSession s t P none = ⊥
 
 abbrev pub AnswersHandle : Handle → List ℕ → List ℕ → Result ℕ CallRefusal → Handle → List ℕ → Type 0
 AnswersHandle old line before result new after =
-    InSession old.session new.session (λ s t. AnswersInto s line before result t after) ((result ≡ Err NoSession) × (after ≡ before))
+    InOpenSession old.session new.session (λ s t. AnswersInto s line before result t after) ((result ≡ Err NoSession) × (after ≡ before))

@@ -15,10 +15,10 @@ abbrev pub bearer_with : Option Qos → Option Sums → ℕ → Result BearerSta
 bearer_with (Some q) (Some sums) rules = Ok (record { qos = q; guaranteed = sums; rules = rules })
 bearer_with q sums rules = Err NoBearer
 
-abbrev pub bearer_of : Binding → ℕ → Result BearerState BearerRefusal
-bearer_of v id = bearer_with (qos_on id v) (guaranteed id v.bound) (length (rules_on id v.bound))
+abbrev pub bearer_state : Binding → ℕ → Result BearerState BearerRefusal
+bearer_state v id = bearer_with (qos_on id v) (guaranteed id v.bound) (length (rules_on id v.bound))
 
 -- the bearer of this id among those on which the active rules stand now
 abbrev pub bearer_in : Option OpenSession → ℕ → Result BearerState BearerRefusal
 bearer_in None id = Err NoSession
-bearer_in (Some s) id = bearer_of (binding_now s.world.session) id
+bearer_in (Some s) id = bearer_state (binding_now s.world.session) id

@@ -18,8 +18,8 @@ abbrev pub commands_left : OpenSession → ℕ
 commands_left s = s.world.session.setting.commands - length (commands s.world.session.journal)
 
 -- those of the session's life, less the workers that were ever attached
-abbrev pub workers_left : OpenSession → ℕ
-workers_left s = left_of_workers s.world.session.journal
+abbrev pub handle_workers_left : OpenSession → ℕ
+handle_workers_left s = left_of_workers s.world.session.journal
 
 abbrev pub rows_left_in : Option OpenSession → Option ℕ
 rows_left_in s = option_map rows_left s
@@ -28,7 +28,7 @@ abbrev pub commands_left_in : Option OpenSession → Option ℕ
 commands_left_in s = option_map commands_left s
 
 abbrev pub workers_left_in : Option OpenSession → Option ℕ
-workers_left_in s = option_map workers_left s
+workers_left_in s = option_map handle_workers_left s
 
 -- the usage of the key that stands at a place among those that have a slot, each as the journal says
 abbrev pub IsUsageOf : Option KeyState → Result KeyUsage UsageRefusal → Type 0

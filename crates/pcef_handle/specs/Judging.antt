@@ -20,7 +20,7 @@ use Rattle.pcef_handle.specs.declared.judging.Judgement.{Judgement}
 
 -- the decision of the newest generation on a header: its verdict, the place of the rule in its table, and exactly the
 -- slots of the keys that the packet counts for
-pub record IsJudged (s : SessionModel) (header : Header) (d : Judgement) : Type 0 where
+pub record IsJudgementOf (s : SessionModel) (header : Header) (d : Judgement) : Type 0 where
   pub generation_is : d.generation ≡ gen s.journal
   pub verdict_is : d.verdict ≡ verdict_at s.setting (at s.setting s.journal (gen s.journal)) header
   pub counts_is : AreSlotsOf (slots s.setting s.journal)
@@ -29,7 +29,7 @@ pub record IsJudged (s : SessionModel) (header : Header) (d : Judgement) : Type 
 
 -- the header that is read is judged, or why there is none
 abbrev pub JudgesRead : OpenSession → (Result Header FrontFault → Type 0) → Result Judgement JudgeRefusal → Type 0
-JudgesRead s Reads (Ok d) = (header : Header) × Reads (Ok header) × IsJudged s.world.session header d
+JudgesRead s Reads (Ok d) = (header : Header) × Reads (Ok header) × IsJudgementOf s.world.session header d
 JudgesRead s Reads (Err (NoPacket fault)) = Reads (Err (front.Packet fault))
 JudgesRead s Reads (Err TooFew) = Reads (Err front.TooFew)
 JudgesRead s Reads (Err NoSession) = ⊥

@@ -1,7 +1,7 @@
 -- A renewal of a handle's session, with its answer in a caller's buffer (own choice).
 use Rattle.std.specs.Prelude.{ℕ, ◌≡◌, Bool, true, false, List, Option, Some, None, Result, Ok, Err}
 use Rattle.pcef_renewal_answer.specs.Renewed.{AnswersRenew, GoesOnLike, IsRenewedOrNot, renews}
-use Rattle.pcef_handle.specs.Answering.{CopiesFront, InSession}
+use Rattle.pcef_handle.specs.Answering.{CopiesFront, InOpenSession}
 use Rattle.pcef_handle.specs.Opening.{number_after}
 use Rattle.pcef_handle.specs.declared.held.Handle.{Handle}
 use Rattle.pcef_handle.specs.declared.held.OpenSession.{OpenSession}
@@ -31,5 +31,5 @@ RenewsInto old next before (Err other) new then after = ⊥
 
 abbrev pub RenewsHandle : Handle → List ℕ → Result ℕ CallRefusal → Handle → List ℕ → Type 0
 RenewsHandle old before result new after =
-    InSession old.session new.session (λ s t. RenewsInto s old.next_number before result t new.next_number after)
+    InOpenSession old.session new.session (λ s t. RenewsInto s old.next_number before result t new.next_number after)
     ((result ≡ Err NoSession) × (after ≡ before) × (new.next_number ≡ old.next_number))

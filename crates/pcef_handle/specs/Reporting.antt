@@ -5,7 +5,7 @@ use Rattle.pcef_model.specs.Entries.{Journal, reports}
 use Rattle.pcef_model.specs.Journals.{report_count}
 use Rattle.pcef_world.specs.Steps.{standing_of}
 use Rattle.pcef_answer.specs.ReportAnswers.{reports_data}
-use Rattle.pcef_handle.specs.Answering.{CopiesFront, InSession}
+use Rattle.pcef_handle.specs.Answering.{CopiesFront, InOpenSession}
 use Rattle.pcef_handle.specs.declared.held.Handle.{Handle}
 use Rattle.pcef_handle.specs.declared.held.OpenSession.{OpenSession}
 use Rattle.pcef_handle.specs.declared.line.CallRefusal.{CallRefusal}
@@ -39,6 +39,6 @@ pub record ForgetsReports (old : OpenSession) (number : ℕ) (new : OpenSession)
   pub number_stays : new.number ≡ old.number
 
 abbrev pub ForgetsHandle : Handle → Result ℕ CallRefusal → Handle → Type 0
-ForgetsHandle old (Ok number) new = InSession old.session new.session (λ s t. ForgetsReports s number t) ⊥
+ForgetsHandle old (Ok number) new = InOpenSession old.session new.session (λ s t. ForgetsReports s number t) ⊥
 ForgetsHandle old (Err NoSession) new = (old.session ≡ None) × (new.session ≡ None)
 ForgetsHandle old (Err other) new = ⊥

@@ -121,14 +121,14 @@ Abandons s w (Err other) t = ⊥
 
 -- ---- at two handles
 -- where one has no session, or the other no worker, both stay
-abbrev pub Lacks : Option OpenSession → Option Attached → MeetRefusal → Option OpenSession → Option Attached → Type 0
-Lacks None w meeting.NoSession None v = v ≡ w
-Lacks (Some s) None meeting.NoWorker (Some t) None = t ≡ s
-Lacks s w r t v = ⊥
+abbrev pub LacksMeeting : Option OpenSession → Option Attached → MeetRefusal → Option OpenSession → Option Attached → Type 0
+LacksMeeting None w meeting.NoSession None v = v ≡ w
+LacksMeeting (Some s) None meeting.NoWorker (Some t) None = t ≡ s
+LacksMeeting s w r t v = ⊥
 
 abbrev pub RefreshesIn : Option OpenSession → Option Attached → Result ℕ MeetRefusal → Option OpenSession → Option Attached → Type 0
 RefreshesIn (Some s) (Some w) r (Some t) (Some v) = Refreshes s w r v × (t ≡ s)
-RefreshesIn s w (Err r) t v = Lacks s w r t v
+RefreshesIn s w (Err r) t v = LacksMeeting s w r t v
 RefreshesIn s w r t v = ⊥
 
 abbrev pub RefreshesWorker : Handle → WorkerHandle → Result ℕ MeetRefusal → WorkerHandle → Type 0
@@ -138,7 +138,7 @@ RefreshesWorker h w r v = RefreshesIn h.session w.worker r h.session v.worker
 abbrev pub FlushesIn : Option OpenSession → Option Attached → Result ℕ MeetRefusal → Option OpenSession → Option Attached → Type 0
 FlushesIn (Some s) (Some w) (Ok next) (Some t) (Some v) = (d : Verdicts) × Flushes s w (Ok d) t v × (next ≡ d.past_last_report)
 FlushesIn (Some s) (Some w) (Err r) (Some t) (Some v) = Flushes s w (Err r) t v
-FlushesIn s w (Err r) t v = Lacks s w r t v
+FlushesIn s w (Err r) t v = LacksMeeting s w r t v
 FlushesIn s w r t v = ⊥
 
 abbrev pub FlushesWorker : Handle → WorkerHandle → Result ℕ MeetRefusal → Handle → WorkerHandle → Type 0
@@ -148,7 +148,7 @@ FlushesWorker h w r g v = FlushesIn h.session w.worker r g.session v.worker
 abbrev pub FinishesIn : Option OpenSession → Option Attached → Result ℕ MeetRefusal → Option OpenSession → Option Attached → Type 0
 FinishesIn (Some s) (Some w) (Ok next) (Some t) None = (d : Verdicts) × Finishes s w (Ok d) t × (next ≡ d.past_last_report)
 FinishesIn (Some s) (Some w) (Err r) (Some t) (Some v) = Finishes s w (Err r) t × (v ≡ w)
-FinishesIn s w (Err r) t v = Lacks s w r t v
+FinishesIn s w (Err r) t v = LacksMeeting s w r t v
 FinishesIn s w r t v = ⊥
 
 abbrev pub FinishesWorker : Handle → WorkerHandle → Result ℕ MeetRefusal → Handle → WorkerHandle → Type 0
@@ -157,7 +157,7 @@ FinishesWorker h w r g v = FinishesIn h.session w.worker r g.session v.worker
 abbrev pub AbandonsIn : Option OpenSession → Option Attached → Result ℕ MeetRefusal → Option OpenSession → Option Attached → Type 0
 AbandonsIn (Some s) (Some w) (Ok rows) (Some t) None = Abandons s w (Ok rows) t
 AbandonsIn (Some s) (Some w) (Err r) (Some t) (Some v) = Abandons s w (Err r) t × (v ≡ w)
-AbandonsIn s w (Err r) t v = Lacks s w r t v
+AbandonsIn s w (Err r) t v = LacksMeeting s w r t v
 AbandonsIn s w r t v = ⊥
 
 abbrev pub AbandonsWorker : Handle → WorkerHandle → Result ℕ MeetRefusal → Handle → WorkerHandle → Type 0

@@ -1,7 +1,7 @@
 //! The bearers of a session, by their ids.
 
 ghost use Rattle.std.specs.Prelude.{◌≡◌};
-ghost use Rattle.pcef_handle.specs.BearerStates.{bearer_in, bearer_of};
+ghost use Rattle.pcef_handle.specs.BearerStates.{bearer_in, bearer_state};
 
 use crate::held::Handle;
 use pcef_bearer::Bearers;
@@ -28,7 +28,7 @@ pub enum BearerRefusal {
 }
 
 fn bearer_of(bearers: &Bearers, id: BearerId) -> Result<BearerState, BearerRefusal>
-    ensures { result ≡ bearer_of bearers.now id.0 }
+    ensures { result ≡ bearer_state bearers.now id.0 }
 {
     let Some(qos) = bearers.qos_on(id) else {
         return Err(BearerRefusal::NoBearer);

@@ -1,7 +1,7 @@
 //! What a session has counted, and what is left of its limits.
 
 ghost use Rattle.std.specs.Prelude.{◌≡◌};
-ghost use Rattle.pcef_handle.specs.Counts.{UsageIn, commands_left, commands_left_in, rows_left, rows_left_in, workers_left, workers_left_in};
+ghost use Rattle.pcef_handle.specs.Counts.{UsageIn, commands_left, commands_left_in, rows_left, rows_left_in, handle_workers_left, workers_left_in};
 
 use crate::held::{Handle, OpenSession};
 
@@ -38,7 +38,7 @@ fn commands_left(session: &OpenSession) -> u64
 }
 
 fn workers_left(session: &OpenSession) -> u64
-    ensures { result ≡ workers_left session.now }
+    ensures { result ≡ handle_workers_left session.now }
 {
     session.world.session().workers_left() as u64
 }

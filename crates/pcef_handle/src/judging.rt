@@ -2,7 +2,7 @@
 
 ghost use Rattle.std.specs.Prelude.{◌≢◌, ◌≡◌, ◌≤◌, Err, length};
 ghost use Rattle.pcef_packet.specs.HeaderOf.{version};
-ghost use Rattle.pcef_handle.specs.Judging.{IsJudged, JudgesHandle};
+ghost use Rattle.pcef_handle.specs.Judging.{IsJudgementOf, JudgesHandle};
 ghost use Rattle.pcef_handle.specs.declared.judging.JudgeRefusal.TheVariants.{TooFew};
 
 use crate::held::{Handle, OpenSession};
@@ -43,7 +43,7 @@ pub enum JudgeRefusal {
 
 /// Judges a packet by the newest generation of a session.
 fn judge_header(session: &OpenSession, header: &Header) -> Judgement
-    ensures { IsJudged session.now.world.session header.now result }
+    ensures { IsJudgementOf session.now.world.session header.now result }
 {
     let state = session.world.session();
     let newest: &Indexed = state.indexed();

@@ -1,4 +1,4 @@
--- From the first line that fits to the first entry that fits.
+-- From the first line that source_fits to the first entry that source_fits.
 use Rattle.std.proofs.Common.{◌≡◌, ◌+◌, ◌++◌, ◌∙◌, ℕ, suc, Bool, true, false, Option, Some, None, List, [], ◌∷◌, All, Bor, find, map, refl, subst, sym, ap, arith, inl, inr}
 use Rattle.std.specs.Prelude.{IfSome, slice_get}
 use Rattle.std.specs.List.{list_any}
@@ -14,7 +14,7 @@ use Rattle.pcef_catalog.specs.Shapes.{detected}
 use Rattle.pcef_table.specs.declared.entry.TableEntry.{TableEntry}
 use Rattle.pcef_table.specs.declared.entry.Source.{Source}
 use Rattle.pcef_table.specs.declared.entry.Source.TheVariants.{Dynamic, Predefined}
-use Rattle.pcef_table.specs.Sources.{IsKnown, fits}
+use Rattle.pcef_table.specs.Sources.{IsKnown, source_fits}
 use Rattle.pcef_index.specs.declared.lines.Line.{Line}
 use Rattle.pcef_index.specs.declared.lines.Part.TheVariants as part
 use Rattle.pcef_index.specs.private.Lines.{filter_lines, line_fits, lines_from, source_lines}
@@ -42,53 +42,53 @@ filters_none offers ue h k (f ∷ fs) rest none =
     cond-false (matches f ue h) (Some line) (find (line_fits offers ue h) (filter_lines k fs ++ rest)) both.0
     ∙ filters_none offers ue h k fs rest both.1
 
-source_some : (offers : List Offer) (ue : Addr) (h : Header) (k : ℕ) (s : Source) (rest : List Line) → fits offers ue h s ≡ true → place_of (find (line_fits offers ue h) (source_lines k s ++ rest)) ≡ Some k
+source_some : (offers : List Offer) (ue : Addr) (h : Header) (k : ℕ) (s : Source) (rest : List Line) → source_fits offers ue h s ≡ true → place_of (find (line_fits offers ue h) (source_lines k s ++ rest)) ≡ Some k
 source_some offers ue h k (Dynamic rule) rest passes = filters_some offers ue h k rule.filters rest passes
 source_some offers ue h k (Predefined index) rest passes =
     let line : Line = record { place = k; part = part.Offer index } in
     ap place_of (cond-true (detected offers index h) (Some line) (find (line_fits offers ue h) rest) passes)
 
-source_none : (offers : List Offer) (ue : Addr) (h : Header) (k : ℕ) (s : Source) (rest : List Line) → fits offers ue h s ≡ false → find (line_fits offers ue h) (source_lines k s ++ rest) ≡ find (line_fits offers ue h) rest
+source_none : (offers : List Offer) (ue : Addr) (h : Header) (k : ℕ) (s : Source) (rest : List Line) → source_fits offers ue h s ≡ false → find (line_fits offers ue h) (source_lines k s ++ rest) ≡ find (line_fits offers ue h) rest
 source_none offers ue h k (Dynamic rule) rest fails = filters_none offers ue h k rule.filters rest fails
 source_none offers ue h k (Predefined index) rest fails =
     let line : Line = record { place = k; part = part.Offer index } in
     cond-false (detected offers index h) (Some line) (find (line_fits offers ue h) rest) fails
 
 abbrev pub entry_fits : List Offer → Addr → Header → TableEntry → Bool
-entry_fits offers ue h e = fits offers ue h e.source
+entry_fits offers ue h e = source_fits offers ue h e.source
 
 abbrev pub sources_of : List TableEntry → List Source
 sources_of es = map (λ e. e.source) es
 
--- where no line fits, no entry does
+-- where no line source_fits, no entry does
 pub no_entry : (offers : List Offer) (ue : Addr) (h : Header) (k : ℕ) (es : List TableEntry) → place_of (find (line_fits offers ue h) (lines_from k (sources_of es))) ≡ None → find (entry_fits offers ue h) es ≡ None
 no_entry offers ue h k [] none = refl
 no_entry offers ue h k (e ∷ es) none =
     let rest = lines_from (k + 1) (sources_of es) in
-    elim (cases_Bool (fits offers ue h e.source)) [
+    elim (cases_Bool (source_fits offers ue h e.source)) [
       | inl passes ↦ absurd (let some = source_some offers ue h k e.source rest passes in cc)
       | inr fails ↦
-          cond-false (fits offers ue h e.source) (Some e) (find (entry_fits offers ue h) es) fails
+          cond-false (source_fits offers ue h e.source) (Some e) (find (entry_fits offers ue h) es) fails
           ∙ no_entry offers ue h (k + 1) es (sym (ap place_of (source_none offers ue h k e.source rest fails)) ∙ none)
     ]
 
--- the place of the first line that fits is that of the first entry that does
+-- the place of the first line that source_fits is that of the first entry that does
 pub the_entry : (offers : List Offer) (ue : Addr) (h : Header) (k n : ℕ) (es : List TableEntry) → place_of (find (line_fits offers ue h) (lines_from k (sources_of es))) ≡ Some n
     → (i : ℕ) × (e : TableEntry) × (n ≡ k + i) × (slice_get es i ≡ Some e) × (find (entry_fits offers ue h) es ≡ Some e)
 the_entry offers ue h k n [] some = absurd (cc)
 the_entry offers ue h k n (e ∷ es) some =
     let rest = lines_from (k + 1) (sources_of es) in
-    elim (cases_Bool (fits offers ue h e.source)) [
+    elim (cases_Bool (source_fits offers ue h e.source)) [
       | inl passes ↦
           (let here = source_some offers ue h k e.source rest passes in
           let same : k ≡ n = cc in
-          (0, e, omega arith, refl, cond-true (fits offers ue h e.source) (Some e) (find (entry_fits offers ue h) es) passes))
+          (0, e, omega arith, refl, cond-true (source_fits offers ue h e.source) (Some e) (find (entry_fits offers ue h) es) passes))
       | inr fails ↦
           (let later = the_entry offers ue h (k + 1) n es (sym (ap place_of (source_none offers ue h k e.source rest fails)) ∙ some) in
-          (suc later.0, later.1, omega (arith, later.2), later.3, cond-false (fits offers ue h e.source) (Some e) (find (entry_fits offers ue h) es) fails ∙ later.4))
+          (suc later.0, later.1, omega (arith, later.2), later.3, cond-false (source_fits offers ue h e.source) (Some e) (find (entry_fits offers ue h) es) fails ∙ later.4))
     ]
 
--- the entry at the place is the first that fits
+-- the entry at the place is the first that source_fits
 pub entry_at : (offers : List Offer) (ue : Addr) (h : Header) (n : ℕ) (es : List TableEntry) → place_of (find (line_fits offers ue h) (lines_from 0 (sources_of es))) ≡ Some n
     → slice_get es n ≡ find (entry_fits offers ue h) es
 entry_at offers ue h n es some =

@@ -2,7 +2,7 @@
 
 ghost use Rattle.std.specs.Prelude.{◌≡◌, ◌≤◌, ◌<◌, ◌++◌, ◌∷◌, [], map, length, slice_get, IfOk, IfSome, Some, find, if◌then◌else◌};
 ghost use Rattle.std.specs.Option.{option_map};
-ghost use Rattle.pcef_table.specs.Sources.{IsKnown, fits};
+ghost use Rattle.pcef_table.specs.Sources.{IsKnown, source_fits};
 ghost use Rattle.pcef_table.specs.Tables.{IsTable};
 ghost use Rattle.pcef_table.specs.Verdicts.{IsVerdict};
 ghost use Rattle.pcef_index.specs.Candidates.{is_candidate, places_from};
@@ -115,7 +115,7 @@ fn first_sieved<'a, C: Detects>(
     requires sieve { IsSieveOf (map (λ e. e.source) table.now.entries) sieve.now }
     ensures known { IfSome result (λ found. IsKnown (C.offers catalog.now) found.1.now.source) }
     ensures first { option_map (λ found. found.1.now) result
-        ≡ find (λ e. fits (C.offers catalog.now) ue.now header.now e.source) table.now.entries }
+        ≡ find (λ e. source_fits (C.offers catalog.now) ue.now header.now e.source) table.now.entries }
     ensures place { IfSome result (λ found. slice_get table.now.entries found.0 ≡ Some found.1.now) }
 {
     let Some(place) = first_place(
@@ -168,7 +168,7 @@ impl Index {
         requires index { self.now ≡ map (λ e. e.source) table.now.entries }
         ensures known { IfSome result (λ found. IsKnown (C.offers catalog.now) found.1.now.source) }
         ensures first { option_map (λ found. found.1.now) result
-            ≡ find (λ e. fits (C.offers catalog.now) ue.now header.now e.source) table.now.entries }
+            ≡ find (λ e. source_fits (C.offers catalog.now) ue.now header.now e.source) table.now.entries }
         ensures place { IfSome result (λ found. slice_get table.now.entries found.0 ≡ Some found.1.now) }
     {
         match &self.sieve {

@@ -7,7 +7,7 @@ ghost use Rattle.pcef_packet.specs.Addresses.{is_assigned, ue_side};
 ghost use Rattle.pcef_packet.specs.declared.header.Addr.{Addr};
 ghost use Rattle.pcef_index.specs.Places.{IsFirstPlace};
 ghost use Rattle.pcef_table.specs.SessionSlots.{no_slots, slots_counted};
-ghost use Rattle.pcef_table.specs.Sources.{IsKnown, fits};
+ghost use Rattle.pcef_table.specs.Sources.{IsKnown, source_fits};
 ghost use Rattle.pcef_table.specs.Tables.{IsTable};
 ghost use Rattle.pcef_table.specs.Verdicts.{IsPlaced, IsVerdict, verdict_by};
 
@@ -192,7 +192,7 @@ impl Indexed {
         requires { IsTable (C.offers catalog.now) self.now.entries }
         ensures known { IfSome result (λ found. IsKnown (C.offers catalog.now) found.1.now.source) }
         ensures first { option_map (λ found. found.1.now) result
-            ≡ find (λ e. fits (C.offers catalog.now) ue.now header.now e.source) self.now.entries }
+            ≡ find (λ e. source_fits (C.offers catalog.now) ue.now header.now e.source) self.now.entries }
         ensures place { IfSome result (λ found. slice_get self.now.entries found.0 ≡ Some found.1.now) }
     {
         self.index.first_fitting(&self.table, catalog, ue, header)

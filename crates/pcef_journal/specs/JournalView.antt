@@ -5,15 +5,15 @@ use Rattle.pcef_journal.specs.declared.journal.Journal.TheInside.{Inside}
 use Rattle.pcef_journal.specs.KeptJournal.{KeptJournal}
 
 -- how many more a counter can count
-abbrev pub left : ℕ → ℕ
-left count = 2 ^ 64 - 1 - count
+abbrev pub count_left : ℕ → ℕ
+count_left count = 2 ^ 64 - 1 - count
 
-abbrev pub kept_of : Inside → KeptJournal
-kept_of j =
+abbrev pub kept_journal : Inside → KeptJournal
+kept_journal j =
     record {
       entries = j.history.items;
       forgotten = j.forgotten;
-      room = min (vec_capacity j.reports - vec_len j.reports) (min (left j.commands) (min (left j.rows) (left j.report_total)));
+      room = min (vec_capacity j.reports - vec_len j.reports) (min (count_left j.commands) (min (count_left j.rows) (count_left j.report_total)));
     }
 
 -- the counts are those of the entries, and the reports those behind the forgotten ones

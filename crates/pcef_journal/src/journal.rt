@@ -41,10 +41,10 @@ impl Model for Journal {
 
     ghost Value = { KeptJournal };
 
-    ghost use Rattle.pcef_journal.specs.JournalView.{kept_of};
+    ghost use Rattle.pcef_journal.specs.JournalView.{kept_journal};
     ghost use Rattle.pcef_journal.specs.JournalView.{CountsAgree};
 
-    ghost view = { kept_of };
+    ghost view = { kept_journal };
 
     ghost invariant = { CountsAgree };
 }

@@ -6,10 +6,10 @@ use Rattle.std.proofs.lemmas.Bool.{cases_Bool, cond-false, cond-true, or_left, o
 use Rattle.std.proofs.lemmas.List.{append-nil}
 use Rattle.pcef_model.specs.Setting.{same_name}
 use Rattle.pcef_model.proofs.Sameness.{same_name_of}
-use Rattle.pcef_journaled.specs.KeptNames.{GoesOn, with_name}
+use Rattle.pcef_journaled.specs.KeptNames.{NamesGoOn, with_name}
 
 -- a name that is put among others leaves each at its place
-pub goes_on : (name : List ℕ) (names : List (List ℕ)) → GoesOn names (with_name name names)
+pub goes_on : (name : List ℕ) (names : List (List ℕ)) → NamesGoOn names (with_name name names)
 goes_on name names =
     let there = list_any (same_name name) names in
     elim (cases_Bool there) [

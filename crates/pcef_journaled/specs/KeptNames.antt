@@ -13,5 +13,5 @@ abbrev pub with_name : List ℕ → List (List ℕ) → List (List ℕ)
 with_name name names = if list_any (same_name name) names then names else names ++ name ∷ []
 
 -- new names stand behind the old ones
-abbrev pub GoesOn : List (List ℕ) → List (List ℕ) → Type 0
-GoesOn old new = (more : List (List ℕ)) × (new ≡ old ++ more)
+abbrev pub NamesGoOn : List (List ℕ) → List (List ℕ) → Type 0
+NamesGoOn old new = (more : List (List ℕ)) × (new ≡ old ++ more)

@@ -8,31 +8,31 @@ use Rattle.pcef_journaled.specs.declared.kept_row.KeptRow.{KeptRow}
 use Rattle.pcef_journaled.specs.declared.kept_row.KeptVerdict.{KeptVerdict}
 use Rattle.pcef_journaled.specs.declared.kept_row.KeptVerdict.TheVariants.{Stray, Unmatched, Gated, Passed}
 
-abbrev pub name_at : List (List ℕ) → ℕ → List ℕ
-name_at names place = get_or names place []
+abbrev pub kept_name : List (List ℕ) → ℕ → List ℕ
+kept_name names place = get_or names place []
 
 -- the verdict, where the name of the rule stands at this place
-abbrev pub verdict_of : List (List ℕ) → ℕ → KeptVerdict → Verdict
-verdict_of names place Stray = verdict.Stray
-verdict_of names place Unmatched = verdict.Unmatched
-verdict_of names place Gated = verdict.Gated (name_at names place)
-verdict_of names place (Passed bearer) = verdict.Passed (name_at names place) bearer
+abbrev pub verdict_of_kept : List (List ℕ) → ℕ → KeptVerdict → Verdict
+verdict_of_kept names place Stray = verdict.Stray
+verdict_of_kept names place Unmatched = verdict.Unmatched
+verdict_of_kept names place Gated = verdict.Gated (kept_name names place)
+verdict_of_kept names place (Passed bearer) = verdict.Passed (kept_name names place) bearer
 
-abbrev pub row_of : List (List ℕ) → KeptRow → Row
-row_of names r = record { worker = r.worker; seq = r.seq; generation = r.generation; header = r.header; verdict = verdict_of names r.rule r.verdict }
+abbrev pub row_of_kept : List (List ℕ) → KeptRow → Row
+row_of_kept names r = record { worker = r.worker; seq = r.seq; generation = r.generation; header = r.header; verdict = verdict_of_kept names r.rule r.verdict }
 
 abbrev pub rows_of : List (List ℕ) → List KeptRow → List Row
-rows_of names kept = map (row_of names) kept
+rows_of names kept = map (row_of_kept names) kept
 
 -- where a verdict names a rule, the place of the name is below `count`
-abbrev pub IsPlaced : ℕ → ℕ → KeptVerdict → Type 0
-IsPlaced count place Stray = Unit {0}
-IsPlaced count place Unmatched = Unit {0}
-IsPlaced count place Gated = place < count
-IsPlaced count place (Passed bearer) = place < count
+abbrev pub HasPlaceBelow : ℕ → ℕ → KeptVerdict → Type 0
+HasPlaceBelow count place Stray = Unit {0}
+HasPlaceBelow count place Unmatched = Unit {0}
+HasPlaceBelow count place Gated = place < count
+HasPlaceBelow count place (Passed bearer) = place < count
 
 abbrev pub ArePlaced : ℕ → List KeptRow → Type 0
-ArePlaced count kept = AllByRecursion (λ r. IsPlaced count r.rule r.verdict) kept
+ArePlaced count kept = AllByRecursion (λ r. HasPlaceBelow count r.rule r.verdict) kept
 
 -- the rows of a worker
 abbrev pub lane_in : ℕ → List (List ℕ) → List KeptRow → List Row

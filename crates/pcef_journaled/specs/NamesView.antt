@@ -5,8 +5,8 @@ use Rattle.pcef_journaled.specs.declared.names.Names.TheInside.{Inside}
 use Rattle.pcef_journaled.specs.KeptNames.{KeptNames}
 
 -- a place takes four octets
-abbrev pub names_of : Inside → KeptNames
-names_of n =
+abbrev pub kept_names : Inside → KeptNames
+kept_names n =
     record {
       names = n.names.keys;
       room = min (spare n.names) (2 ^ 32 - length n.names.keys);

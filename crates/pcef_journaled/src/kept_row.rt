@@ -1,8 +1,8 @@
 //! Rows as a journal keeps them: the name of a row's rule stands elsewhere, once for all rows.
 
 ghost use Rattle.std.specs.Prelude.{◌≡◌, ◌<◌, ◌≤◌, ◌+◌, length};
-ghost use Rattle.pcef_journaled.specs.KeptNames.{GoesOn};
-ghost use Rattle.pcef_journaled.specs.KeptRows.{IsPlaced, name_at, row_of, verdict_of};
+ghost use Rattle.pcef_journaled.specs.KeptNames.{NamesGoOn};
+ghost use Rattle.pcef_journaled.specs.KeptRows.{HasPlaceBelow, kept_name, row_of_kept, verdict_of_kept};
 
 use crate::names::Names;
 use pcef_model::{Row, Verdict};
@@ -40,7 +40,7 @@ const _: () = prove!(size_of::<KeptRow>() == 72);
 /// The name at a place.
 fn name_at(names: &[RuleName], place: u32) -> RuleName
     requires { place < length names.now }
-    ensures { result ≡ name_at names.now place }
+    ensures { result ≡ kept_name names.now place }
 {
     names[place as usize].copy()
 }
@@ -48,9 +48,9 @@ fn name_at(names: &[RuleName], place: u32) -> RuleName
 /// What is kept of a verdict, and the place of its rule's name, which is added where it is new.
 fn keep_verdict(verdict: &Verdict, names: &mut Names) -> (u32, KeptVerdict)
     requires { 0 < names.old.room }
-    ensures verdict { verdict_of names.new.names result.0 result.1 ≡ verdict.now }
-    ensures place { IsPlaced (length names.new.names) result.0 result.1 }
-    ensures names { GoesOn names.old.names names.new.names }
+    ensures verdict { verdict_of_kept names.new.names result.0 result.1 ≡ verdict.now }
+    ensures place { HasPlaceBelow (length names.new.names) result.0 result.1 }
+    ensures names { NamesGoOn names.old.names names.new.names }
     ensures room { names.old.room ≤ names.new.room + 1 }
 {
     match verdict {
@@ -65,9 +65,9 @@ impl KeptRow {
     /// What is kept of a row. The name of its rule is added where it is new. Takes no memory.
     pub(crate) fn new(row: &Row, names: &mut Names) -> KeptRow
         requires { 0 < names.old.room }
-        ensures row { row_of names.new.names result ≡ row.now }
-        ensures place { IsPlaced (length names.new.names) result.rule result.verdict }
-        ensures names { GoesOn names.old.names names.new.names }
+        ensures row { row_of_kept names.new.names result ≡ row.now }
+        ensures place { HasPlaceBelow (length names.new.names) result.rule result.verdict }
+        ensures names { NamesGoOn names.old.names names.new.names }
         ensures room { names.old.room ≤ names.new.room + 1 }
     {
         let (rule, verdict) = keep_verdict(&row.verdict, names);
@@ -90,8 +90,8 @@ impl KeptRow {
 
     /// The verdict, with the name of its rule.
     fn verdict(&self, names: &[RuleName]) -> Verdict
-        requires { IsPlaced (length names.now) self.now.rule self.now.verdict }
-        ensures { result ≡ verdict_of names.now self.now.rule self.now.verdict }
+        requires { HasPlaceBelow (length names.now) self.now.rule self.now.verdict }
+        ensures { result ≡ verdict_of_kept names.now self.now.rule self.now.verdict }
     {
         match self.verdict {
             KeptVerdict::Stray => Verdict::Stray,
@@ -108,8 +108,8 @@ impl KeptRow {
 
     /// The row, with the name of its rule. Takes no memory.
     pub(crate) fn row(&self, names: &[RuleName]) -> Row
-        requires { IsPlaced (length names.now) self.now.rule self.now.verdict }
-        ensures { result ≡ row_of names.now self.now }
+        requires { HasPlaceBelow (length names.now) self.now.rule self.now.verdict }
+        ensures { result ≡ row_of_kept names.now self.now }
     {
         Row {
             seq: self.seq,

@@ -1,7 +1,7 @@
 //! The names of rules that rows speak of.
 
 ghost use Rattle.std.specs.Prelude.{◌≡◌, ◌<◌, ◌≤◌, ◌+◌, [], Some, slice_get, IsOk, IsTrue, OnOk};
-ghost use Rattle.pcef_journaled.specs.KeptNames.{GoesOn, with_name};
+ghost use Rattle.pcef_journaled.specs.KeptNames.{NamesGoOn, with_name};
 
 use indexmap::IndexSet;
 use pcef_rule::RuleName;
@@ -31,9 +31,9 @@ impl Model for Names {
 
     ghost Value = { KeptNames };
 
-    ghost use Rattle.pcef_journaled.specs.NamesView.{names_of};
+    ghost use Rattle.pcef_journaled.specs.NamesView.{kept_names};
 
-    ghost view = { names_of };
+    ghost view = { kept_names };
 }
 
 /// Whether a name stands at a place.
@@ -77,7 +77,7 @@ impl Names {
         requires { 0 < self.old.room }
         ensures place { slice_get self.new.names result ≡ Some name.now }
         ensures names { self.new.names ≡ with_name name.now self.old.names }
-        ensures more { GoesOn self.old.names self.new.names }
+        ensures more { NamesGoOn self.old.names self.new.names }
         ensures room { self.old.room ≤ self.new.room + 1 }
     {
         let Ok((place, _)) = self.names.insert_full(name.copy()) else {
@@ -92,7 +92,7 @@ impl Names {
         requires { 0 < self.old.room }
         ensures place { slice_get self.new.names result ≡ Some name.now }
         ensures names { self.new.names ≡ with_name name.now self.old.names }
-        ensures more { GoesOn self.old.names self.new.names }
+        ensures more { NamesGoOn self.old.names self.new.names }
         ensures room { self.old.room ≤ self.new.room + 1 }
     {
         if stands_at(self.names.as_slice(), self.last, name) {

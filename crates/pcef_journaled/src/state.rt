@@ -7,7 +7,7 @@ ghost use Rattle.pcef_model.specs.Outcomes.{AttachStep, CommandStep, Opens, aban
 ghost use Rattle.pcef_model.specs.ProfileModel.{setting_of};
 ghost use Rattle.pcef_model.specs.Refusals.{is_attached};
 ghost use Rattle.pcef_model.specs.Reports.{after_leave};
-ghost use Rattle.pcef_session.specs.Answers.{AcceptsWithin, AnswersFinish, AnswersFlush, IsOpened, KeepsPrepared, MayFollow, Refuses, RefusesWithin, Settles};
+ghost use Rattle.pcef_session.specs.Answers.{AcceptsWithin, AnswersFinish, AnswersFlush, IsOpened, KeepsPrepared, MayComeNext, Refuses, RefusesWithin, Settles};
 ghost use Rattle.pcef_session.specs.Following.{HasFewKeys, HasItsSlots};
 ghost use Rattle.pcef_session.specs.Preparing.{IsPreparedFor, command_of};
 ghost use Rattle.pcef_session.specs.SessionModel.{HasAtLeast};
@@ -135,7 +135,7 @@ impl JournaledState {
 
     /// Takes over a worker's waiting rows, all or none, as [`SessionState::flush`].
     pub fn flush(&mut self, worker: u8, batch: &Batch) -> Result<Verdicts, FlushRefusal>
-        requires follow { MayFollow self.old.session worker batch.now }
+        requires follow { MayComeNext self.old.session worker batch.now }
         requires slots { HasItsSlots self.old.session.setting self.old.session.journal batch.now }
         ensures answer { AnswersFlush self.old.session worker batch.now result self.new.session }
         ensures few_keys { OnOk result (HasFewKeys self.old.session.setting self.old.session.journal) }
@@ -161,7 +161,7 @@ impl JournaledState {
 
     /// Takes over a worker's last rows and lets it leave, as [`SessionState::finish`].
     pub fn finish(&mut self, worker: u8, batch: &Batch) -> Result<(Verdicts, u64), FlushRefusal>
-        requires follow { MayFollow self.old.session worker batch.now }
+        requires follow { MayComeNext self.old.session worker batch.now }
         requires slots { HasItsSlots self.old.session.setting self.old.session.journal batch.now }
         ensures answer { AnswersFinish self.old.session worker batch.now
             result self.new.session }

@@ -16,7 +16,7 @@ use Rattle.pcef_model.specs.Refusals.{is_attached}
 use Rattle.pcef_model.specs.Reports.{with_rows}
 use Rattle.pcef_model.proofs.Lanes.{lane_len_with, lane_other}
 use Rattle.pcef_lane.specs.declared.lanes.LaneEnd.{LaneEnd}
-use Rattle.pcef_lane.specs.Lanes.{LanesAgree, at_start, end_of, ends_from, lane_end, last_generation, left, lengthened, present}
+use Rattle.pcef_lane.specs.Lanes.{LanesAgree, just_attached, end_of, ends_from, lane_end, last_generation, left, lengthened, present}
 use Rattle.pcef_lane.proofs.Present.{none_past, other_number, own_number, present_come, present_count, present_leave, present_lengthen}
 
 -- ---- the ends from one worker on
@@ -92,12 +92,12 @@ unfolding attached
 come_other j n w below = ap (λ b. record { rows = length (lane j w); newest_generation = newest_generation (lane j w); attached = b || is_attached j w })
     (other_number n w (λ same. omega (arith, below, same)))
 
-come_new : (j : Journal) (n : ℕ) → lane j n ≡ [] → lane_end (entry.Attach n ∷ j) n ≡ at_start
+come_new : (j : Journal) (n : ℕ) → lane j n ≡ [] → lane_end (entry.Attach n ∷ j) n ≡ just_attached
 unfolding attached
 come_new j n none =
     ap (λ rs. end_by rs (n ∷ attached j) n) none ∙ ap (λ b. record { rows = 0; newest_generation = 0; attached = b || is_attached j n }) (own_number n)
 
-pub lanes_come : (j : Journal) (n : ℕ) (lanes : List LaneEnd) → n ≡ attach_count j → lane j n ≡ [] → LanesAgree j lanes → LanesAgree (entry.Attach n ∷ j) (lanes ++ at_start ∷ [])
+pub lanes_come : (j : Journal) (n : ℕ) (lanes : List LaneEnd) → n ≡ attach_count j → lane j n ≡ [] → LanesAgree j lanes → LanesAgree (entry.Attach n ∷ j) (lanes ++ just_attached ∷ [])
 unfolding attach_count attached
 lanes_come j n lanes is none agree =
     let many = lanes_count j lanes agree in
@@ -106,7 +106,7 @@ lanes_come j n lanes is none agree =
     let more : suc n ≡ attach_count j + 1 = omega (arith, is) in
     record {
       ends_are =
-          ap (λ ends. ends ++ at_start ∷ []) (agree.ends_are ∙ ap (ends_from j 0) (sym is) ∙ sym (ends_same j (entry.Attach n ∷ j) 0 n (λ w within. come_other j n w (omega (arith, within)))))
+          ap (λ ends. ends ++ just_attached ∷ []) (agree.ends_are ∙ ap (ends_from j 0) (sym is) ∙ sym (ends_same j (entry.Attach n ∷ j) 0 n (λ w within. come_other j n w (omega (arith, within)))))
           ∙ ap (λ end. ends_from (entry.Attach n ∷ j) 0 n ++ end ∷ []) (sym (come_new j n none) ∙ ap (lane_end (entry.Attach n ∷ j)) own)
           ∙ ends_more (entry.Attach n ∷ j) 0 n ∙ ap (ends_from (entry.Attach n ∷ j) 0) more;
       attached_are = ap (λ ns. n ∷ ns) agree.attached_are ∙ ap (λ m. m ∷ present 0 lanes) next ∙ sym (present_come 0 lanes);
@@ -132,17 +132,17 @@ leave_own n (m ∷ ns) =
     ]
 
 pub lanes_leave : (j : Journal) (n : ℕ) (lanes : List LaneEnd) → n < length lanes → LanesAgree j lanes →
-    LanesAgree (entry.Leave n ∷ j) (set lanes n (left (get_or lanes n at_start)))
+    LanesAgree (entry.Leave n ∷ j) (set lanes n (left (get_or lanes n just_attached)))
 unfolding attach_count attached
 lanes_leave j n lanes within agree =
     let count = lanes_count j lanes agree in
     let there : n < attach_count j = omega (arith, within, count) in
-    let end : get_or lanes n at_start ≡ lane_end j n =
-    ap (λ ends. get_or ends n at_start) agree.ends_are ∙ ends_at j 0 (attach_count j) n at_start there ∙ ap (lane_end j) (omega arith) in
+    let end : get_or lanes n just_attached ≡ lane_end j n =
+    ap (λ ends. get_or ends n just_attached) agree.ends_are ∙ ends_at j 0 (attach_count j) n just_attached there ∙ ap (lane_end j) (omega arith) in
     record {
       ends_are =
-          ap (λ ends. set ends n (left (get_or lanes n at_start))) agree.ends_are
-          ∙ ends_set j (entry.Leave n ∷ j) 0 (attach_count j) n (left (get_or lanes n at_start)) there
+          ap (λ ends. set ends n (left (get_or lanes n just_attached))) agree.ends_are
+          ∙ ends_set j (entry.Leave n ∷ j) 0 (attach_count j) n (left (get_or lanes n just_attached)) there
           (ap left end ∙ ap (λ b. record { rows = length (lane j n); newest_generation = newest_generation (lane j n); attached = b }) (sym (leave_own n (attached j)))
           ∙ ap (lane_end (entry.Leave n ∷ j)) (omega arith))
           (λ w differ. ap (λ b. record { rows = length (lane j w); newest_generation = newest_generation (lane j w); attached = b })
@@ -175,13 +175,13 @@ attached_with (r ∷ rs) j = attached_with rs (entry.Row r ∷ j)
 -- a worker's rows lengthen its lane and no other
 pub lanes_rows : (j : Journal) (n : ℕ) (rs : List Row) (lanes : List LaneEnd) → n < length lanes → All (λ r. r.worker ≡ n) rs → LanesAgree j lanes →
     LanesAgree (with_rows rs j)
-    (set lanes n (lengthened (length rs) (last_generation (get_or lanes n at_start).newest_generation rs) (get_or lanes n at_start)))
+    (set lanes n (lengthened (length rs) (last_generation (get_or lanes n just_attached).newest_generation rs) (get_or lanes n just_attached)))
 lanes_rows j n rs lanes within own agree =
     let k : Journal = with_rows rs j in
     let count = lanes_count j lanes agree in
     let there : n < attach_count j = omega (arith, within, count) in
-    let end : get_or lanes n at_start ≡ lane_end j n =
-    ap (λ ends. get_or ends n at_start) agree.ends_are ∙ ends_at j 0 (attach_count j) n at_start there ∙ ap (lane_end j) (omega arith) in
+    let end : get_or lanes n just_attached ≡ lane_end j n =
+    ap (λ ends. get_or ends n just_attached) agree.ends_are ∙ ends_at j 0 (attach_count j) n just_attached there ∙ ap (lane_end j) (omega arith) in
     let grown : LaneEnd → LaneEnd = λ e. lengthened (length rs) (last_generation e.newest_generation rs) e in
     let more : length (lane j n) + length rs ≡ length (lane k n) = let all = lane_len_with n rs j own in omega (arith, all) in
     let after : grown (lane_end j n) ≡ lane_end k n =
@@ -190,13 +190,13 @@ lanes_rows j n rs lanes within own agree =
     ∙ ap (λ ns. end_by (lane k n) ns n) (sym (attached_with rs j)) in
     record {
       ends_are =
-          ap (λ ends. set ends n (grown (get_or lanes n at_start))) agree.ends_are
-          ∙ ends_set j k 0 (attach_count j) n (grown (get_or lanes n at_start)) there (ap grown end ∙ after ∙ ap (lane_end k) (omega arith))
+          ap (λ ends. set ends n (grown (get_or lanes n just_attached))) agree.ends_are
+          ∙ ends_set j k 0 (attach_count j) n (grown (get_or lanes n just_attached)) there (ap grown end ∙ after ∙ ap (lane_end k) (omega arith))
           (λ w differ. end_same j k w (attached_with rs j) (lane_other w n rs j (other_number n w (λ same. differ (omega (arith, same)))) own))
           ∙ ap (ends_from k 0) (sym (count_with rs j));
       attached_are =
           attached_with rs j ∙ agree.attached_are
-          ∙ sym (present_lengthen 0 lanes n (length rs) (last_generation (get_or lanes n at_start).newest_generation rs) within);
+          ∙ sym (present_lengthen 0 lanes n (length rs) (last_generation (get_or lanes n just_attached).newest_generation rs) within);
     }
 
 -- ---- what the ends hold
@@ -213,9 +213,9 @@ attached_is j lanes worker agree =
       | inl is ↦
           let within : worker < length lanes = ltb-true worker (length lanes) is in
           let count = lanes_count j lanes agree in
-          let end : get_or lanes worker at_start ≡ lane_end j worker =
-          ap (λ ends. get_or ends worker at_start) agree.ends_are ∙ ends_at j 0 (attach_count j) worker at_start (omega (arith, within, count)) ∙ ap (lane_end j) (omega arith) in
-          sym (ap (λ o. option_map_or (λ (e : LaneEnd). e.attached) o false) (slice_get_at lanes worker at_start within ∙ ap (λ (e : LaneEnd). Some e) end))
+          let end : get_or lanes worker just_attached ≡ lane_end j worker =
+          ap (λ ends. get_or ends worker just_attached) agree.ends_are ∙ ends_at j 0 (attach_count j) worker just_attached (omega (arith, within, count)) ∙ ap (lane_end j) (omega arith) in
+          sym (ap (λ o. option_map_or (λ (e : LaneEnd). e.attached) o false) (slice_get_at lanes worker just_attached within ∙ ap (λ (e : LaneEnd). Some e) end))
       | inr isnt ↦
           let past : length lanes ≤ worker = ltb-false worker (length lanes) isnt in
           ap (list_any (λ w. w == worker)) agree.attached_are ∙ none_past 0 lanes worker (omega (arith, past))
@@ -237,10 +237,10 @@ pub attached_len : (j : Journal) (lanes : List LaneEnd) → LanesAgree j lanes �
 attached_len j lanes agree = ap length agree.attached_are ∙ present_count 0 lanes
 
 -- where the lane of a worker that was attached ends
-pub end_is : (j : Journal) (lanes : List LaneEnd) (worker : ℕ) → LanesAgree j lanes → worker < length lanes → get_or lanes worker at_start ≡ lane_end j worker
+pub end_is : (j : Journal) (lanes : List LaneEnd) (worker : ℕ) → LanesAgree j lanes → worker < length lanes → get_or lanes worker just_attached ≡ lane_end j worker
 end_is j lanes worker agree within =
     let count = lanes_count j lanes agree in
-    ap (λ ends. get_or ends worker at_start) agree.ends_are ∙ ends_at j 0 (attach_count j) worker at_start (omega (arith, within, count)) ∙ ap (lane_end j) (omega arith)
+    ap (λ ends. get_or ends worker just_attached) agree.ends_are ∙ ends_at j 0 (attach_count j) worker just_attached (omega (arith, within, count)) ∙ ap (lane_end j) (omega arith)
 
 -- the end of a worker's lane, where the worker was ever attached
 pub end_found : (j : Journal) (lanes : List LaneEnd) (worker : ℕ) → LanesAgree j lanes →
@@ -251,7 +251,7 @@ end_found j lanes worker agree =
       | inl is ↦
           let within : worker < length lanes = ltb-true worker (length lanes) is in
           let there : end_of lanes worker ≡ Some (lane_end j worker) =
-          slice_get_at lanes worker at_start within ∙ ap (λ (e : LaneEnd). Some e) (end_is j lanes worker agree within) in
+          slice_get_at lanes worker just_attached within ∙ ap (λ (e : LaneEnd). Some e) (end_is j lanes worker agree within) in
           rw there (omega (arith, within, count), refl)
       | inr isnt ↦
           let past : length lanes ≤ worker = ltb-false worker (length lanes) isnt in
@@ -266,7 +266,7 @@ rows_is j lanes worker agree absent =
     elim (cases_Bool (nat_lt worker (length lanes))) [
       | inl is ↦
           let within : worker < length lanes = ltb-true worker (length lanes) is in
-          ap (λ o. option_map_or (λ (e : LaneEnd). e.rows) o 0) (slice_get_at lanes worker at_start within ∙ ap (λ (e : LaneEnd). Some e) (end_is j lanes worker agree within))
+          ap (λ o. option_map_or (λ (e : LaneEnd). e.rows) o 0) (slice_get_at lanes worker just_attached within ∙ ap (λ (e : LaneEnd). Some e) (end_is j lanes worker agree within))
       | inr isnt ↦
           let past : length lanes ≤ worker = ltb-false worker (length lanes) isnt in
           ap (λ o. option_map_or (λ (e : LaneEnd). e.rows) o 0) (slice_get_past lanes worker past) ∙ sym (ap length (absent (omega (arith, past, count))))

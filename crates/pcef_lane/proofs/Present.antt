@@ -6,7 +6,7 @@ use Rattle.std.proofs.lemmas.List.{length-append}
 use Rattle.std.proofs.lemmas.List.Elements.{filter-append}
 use Rattle.std.proofs.lemmas.List.Folds.{list_any-append}
 use Rattle.pcef_lane.specs.declared.lanes.LaneEnd.{LaneEnd}
-use Rattle.pcef_lane.specs.Lanes.{at_start, left, lengthened, present}
+use Rattle.pcef_lane.specs.Lanes.{just_attached, left, lengthened, present}
 
 -- the numbers at a place: one, or none
 abbrev pub number_if : Bool → ℕ → List ℕ
@@ -20,7 +20,7 @@ pub own_number : (n : ℕ) → (n == n) ≡ true
 own_number n = eq-eqb n n refl
 
 -- ---- a worker is attached
-pub present_come : (first : ℕ) (ends : List LaneEnd) → present first (ends ++ at_start ∷ []) ≡ (first + length ends) ∷ present first ends
+pub present_come : (first : ℕ) (ends : List LaneEnd) → present first (ends ++ just_attached ∷ []) ≡ (first + length ends) ∷ present first ends
 present_come first [] = ap (λ n. n ∷ []) (omega arith)
 present_come first (end ∷ ends) =
     ap (λ ns. ns ++ number_if end.attached first) (present_come (suc first) ends)
@@ -61,7 +61,7 @@ stays : (attached : Bool) (first worker : ℕ) → (first ≡ worker → ⊥) �
 stays attached first worker differ = keeps_others worker (number_if attached first) (one_there attached first worker differ)
 
 pub present_leave : (first : ℕ) (ends : List LaneEnd) (place worker : ℕ) → place < length ends → worker ≡ first + place →
-    filter (λ v. not (v == worker)) (present first ends) ≡ present first (set ends place (left (get_or ends place at_start)))
+    filter (λ v. not (v == worker)) (present first ends) ≡ present first (set ends place (left (get_or ends place just_attached)))
 present_leave first [] place worker within is = absurd (omega (arith, within))
 present_leave first (end ∷ ends) zero worker within is =
     let here : worker ≡ first = omega (arith, is) in
@@ -71,11 +71,11 @@ present_leave first (end ∷ ends) zero worker within is =
 present_leave first (end ∷ ends) (suc place) worker within is =
     filter-append (λ v. not (v == worker)) (present (suc first) ends) (number_if end.attached first)
     ∙ ap (λ ms. ms ++ filter (λ v. not (v == worker)) (number_if end.attached first)) (present_leave (suc first) ends place worker (omega (arith, within)) (omega (arith, is)))
-    ∙ ap (λ ms. present (suc first) (set ends place (left (get_or ends place at_start))) ++ ms) (stays end.attached first worker (λ same. omega (arith, is, same)))
+    ∙ ap (λ ms. present (suc first) (set ends place (left (get_or ends place just_attached))) ++ ms) (stays end.attached first worker (λ same. omega (arith, is, same)))
 
 -- ---- a lane grows
 pub present_lengthen : (first : ℕ) (ends : List LaneEnd) (place rows generation : ℕ) → place < length ends →
-    present first (set ends place (lengthened rows generation (get_or ends place at_start))) ≡ present first ends
+    present first (set ends place (lengthened rows generation (get_or ends place just_attached))) ≡ present first ends
 present_lengthen first [] place rows generation within = absurd (omega (arith, within))
 present_lengthen first (end ∷ ends) zero rows generation within = refl
 present_lengthen first (end ∷ ends) (suc place) rows generation within =

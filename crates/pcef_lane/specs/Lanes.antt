@@ -26,8 +26,8 @@ lane_ends j = ends_from j 0 (attach_count j)
 
 -- ---- changes
 -- a worker that was just attached
-abbrev pub at_start : LaneEnd
-at_start = record { rows = 0; newest_generation = 0; attached = true }
+abbrev pub just_attached : LaneEnd
+just_attached = record { rows = 0; newest_generation = 0; attached = true }
 
 abbrev pub end_of : List LaneEnd → ℕ → Option LaneEnd
 end_of ends worker = slice_get ends worker

@@ -2,7 +2,7 @@
 
 ghost use Rattle.std.specs.Prelude.{◌≡◌, ◌<◌, ◌≤◌, ◌+◌, ◌^◌, [], ◌++◌, ◌∷◌, false, filter, get_or, length, set};
 ghost use Rattle.std.specs.Option.{option_copied, option_map_or};
-ghost use Rattle.pcef_lane.specs.Lanes.{at_start, end_of, left, lengthened};
+ghost use Rattle.pcef_lane.specs.Lanes.{just_attached, end_of, left, lengthened};
 
 use arrayvec::ArrayVec;
 use std::marker::Model;
@@ -101,7 +101,7 @@ impl Lanes {
     /// Attaches a worker, with the next number.
     pub fn add_lane(&mut self)
         requires { length self.old < 16 }
-        ensures { self.new ≡ self.old ++ at_start ∷ [] }
+        ensures { self.new ≡ self.old ++ just_attached ∷ [] }
     {
         self.ends.push(LaneEnd {
             rows: 0,
@@ -113,7 +113,7 @@ impl Lanes {
     /// Detaches a worker that was attached.
     pub fn leave(&mut self, worker: u8)
         requires { worker < length self.old }
-        ensures { self.new ≡ set self.old worker (left (get_or self.old worker at_start)) }
+        ensures { self.new ≡ set self.old worker (left (get_or self.old worker just_attached)) }
     {
         let ends = self.ends.as_mut_slice();
         ends[usize::from(worker)].attached = false;
@@ -123,9 +123,9 @@ impl Lanes {
     /// time.
     pub fn lengthen(&mut self, worker: u8, rows: u64, generation: u32)
         requires came { worker < length self.old }
-        requires fits { (get_or self.old worker at_start).rows + rows < 2 ^ 64 }
+        requires fits { (get_or self.old worker just_attached).rows + rows < 2 ^ 64 }
         ensures { self.new
-            ≡ set self.old worker (lengthened rows generation (get_or self.old worker at_start)) }
+            ≡ set self.old worker (lengthened rows generation (get_or self.old worker just_attached)) }
     {
         let ends = self.ends.as_mut_slice();
         let end = &mut ends[usize::from(worker)];

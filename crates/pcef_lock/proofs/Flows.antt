@@ -4,12 +4,12 @@ use mathlib.Core.List.{IsPrefix}
 use Rattle.pcef_table.specs.Tables.{TableValue}
 use Rattle.pcef_model.specs.Setting.{Setting}
 use Rattle.pcef_flow.specs.Flows.{Flows, Remembers}
-use Rattle.pcef_publish.specs.Lists.{Ends}
+use Rattle.pcef_publish.specs.Lists.{EndsWith}
 use Rattle.pcef_publish.proofs.Runs.{ends_at, prefix_whole}
 use Rattle.pcef_lock.specs.Judging.{FollowsLast}
 
 -- what is remembered of the table that ends a list is remembered of its last table
-pub follows_end : (p : Setting) (seen : List TableValue) (t : TableValue) (flows : Flows) → Ends seen t → Remembers p.catalog t.entries p.ue flows → FollowsLast p seen flows
+pub follows_end : (p : Setting) (seen : List TableValue) (t : TableValue) (flows : Flows) → EndsWith seen t → Remembers p.catalog t.entries p.ue flows → FollowsLast p seen flows
 follows_end p seen t flows ends remembers u last =
     let same : t ≡ u = cc (sym (ends_at seen t ends) ∙ ends_at seen u last) in
     subst (λ (v : TableValue). Remembers p.catalog v.entries p.ue flows) same remembers

@@ -5,7 +5,7 @@ use Rattle.pcef_rule.specs.declared.quantity.Slot.{Slot}
 use Rattle.pcef_share.specs.Amounts.{added, command_ledger, plus, row_ledger, sums, zeros}
 use Rattle.pcef_session.specs.declared.batch.Item.{Item}
 use Rattle.pcef_handover.specs.Counting.{with_item, with_items, with_slots}
-use Rattle.pcef_lock.specs.Gathering.{gathered, octets_at, octets_for}
+use Rattle.pcef_lock.specs.Gathering.{gathered, row_octets, octets_for}
 use Rattle.pcef_lock.specs.HandedIn.{HandedIn}
 use Rattle.pcef_handover.proofs.Ledgers.{get_plus, length_plus, plus_other}
 
@@ -48,7 +48,7 @@ get_slots t (slot ∷ own) octets k within =
     sum_by-cons (λ (s : Slot). if k == s.0 then octets else 0) slot own in
     omega (arith, more, get_slots (plus t slot.0 octets) own octets k (omega (arith, within, length_plus t slot.0 octets)), get_plus t slot.0 octets k within)
 
-get_item : (t : List ℕ) (i : Item) (k : ℕ) → k < 8 → length t ≡ 10 → get_or (with_item t i) k 0 ≡ get_or t k 0 + octets_at k i
+get_item : (t : List ℕ) (i : Item) (k : ℕ) → k < 8 → length t ≡ 10 → get_or (with_item t i) k 0 ≡ get_or t k 0 + row_octets k i
 get_item t i k below ten =
     plus_other (with_slots t i.slots.items i.row.header.octets) row_ledger 1 k (λ (e : k ≡ 8). absurd (omega (arith, below, e)))
     ∙ get_slots t i.slots.items i.row.header.octets k (omega (arith, below, ten))
@@ -60,7 +60,7 @@ get_items : (t : List ℕ) (items : List Item) (k : ℕ) → k < 8 → length t 
 unfolding with_items
 get_items t [] k below ten = sym (add-zero _)
 get_items t (i ∷ items) k below ten =
-    let more : octets_for k (i ∷ items) ≡ octets_at k i + octets_for k items = sum_by-cons (octets_at k) i items in
+    let more : octets_for k (i ∷ items) ≡ row_octets k i + octets_for k items = sum_by-cons (row_octets k) i items in
     omega (arith, more, get_items (with_item t i) items k below (length_item t i ∙ ten), get_item t i k below ten)
 
 get_zeros : (k : ℕ) → get_or zeros k 0 ≡ 0

@@ -17,12 +17,12 @@ use Rattle.pcef_session.specs.Shown.{Shows}
 use Rattle.pcef_session.proofs.ShownSlots.{shown_slots_of}
 use Rattle.pcef_model.proofs.Decisive.{made_once}
 use Rattle.pcef_session.proofs.ShownVerdicts.{shown_judges}
-use Rattle.pcef_lock.specs.Judging.{AllJudged, IsJudged}
+use Rattle.pcef_lock.specs.Judging.{AllJudged, IsJudgedBySeen}
 use Rattle.pcef_lock.specs.Published.{ArePublished}
 use Rattle.pcef_lock.proofs.Places.{get_within}
 
 -- ---- as more tables are seen
-pub judged_later : (offers : List Offer) (ue : Addr) (first : ℕ) (seen more : List TableValue) (i : Item) → IsPrefix seen more → IsJudged offers ue first seen i → IsJudged offers ue first more i
+pub judged_later : (offers : List Offer) (ue : Addr) (first : ℕ) (seen more : List TableValue) (i : Item) → IsPrefix seen more → IsJudgedBySeen offers ue first seen i → IsJudgedBySeen offers ue first more i
 judged_later offers ue first seen more i begins is = record {
   table = is.table;
   there = (is.there.0, prefix_get seen more (i.row.generation - first) is.table begins is.there.1);
@@ -32,7 +32,7 @@ judged_later offers ue first seen more i begins is = record {
 
 pub all_judged_later : (p : Setting) (first : ℕ) (seen more : List TableValue) (items : List Item) → IsPrefix seen more → AllJudged p first seen items → AllJudged p first more items
 all_judged_later p first seen more items begins all =
-    All-weaker (IsJudged p.catalog p.ue first seen) (IsJudged p.catalog p.ue first more) (λ i is. judged_later p.catalog p.ue first seen more i begins is) items all
+    All-weaker (IsJudgedBySeen p.catalog p.ue first seen) (IsJudgedBySeen p.catalog p.ue first more) (λ i is. judged_later p.catalog p.ue first seen more i begins is) items all
 
 -- ---- where the published tables are those of their generations
 pub record IsRight (p : Setting) (j : Journal) (i : Item) : Type 0 where
@@ -40,7 +40,7 @@ pub record IsRight (p : Setting) (j : Journal) (i : Item) : Type 0 where
   pub verdict : i.row.verdict ≡ verdict_at p (at p j i.row.generation) i.row.header
   pub counts_for : CountsFor p j i.row i.slots.items
 
-right_one : (p : Setting) (j : Journal) (first : ℕ) (ts : List TableValue) (i : Item) → ArePublished p j first ts → IsJudged p.catalog p.ue first ts i → IsRight p j i
+right_one : (p : Setting) (j : Journal) (first : ℕ) (ts : List TableValue) (i : Item) → ArePublished p j first ts → IsJudgedBySeen p.catalog p.ue first ts i → IsRight p j i
 right_one p j first ts i published made =
     let g : ℕ = i.row.generation in
     let t : TableValue = made.table in
@@ -57,7 +57,7 @@ right_one p j first ts i published made =
 
 pub all_right : (p : Setting) (j : Journal) (first : ℕ) (ts seen : List TableValue) (items : List Item) → ArePublished p j first ts → IsPrefix seen ts → AllJudged p first seen items → All (IsRight p j) items
 all_right p j first ts seen items published begins all =
-    All-weaker (IsJudged p.catalog p.ue first ts) (IsRight p j) (λ i is. right_one p j first ts i published is) items (all_judged_later p first seen ts items begins all)
+    All-weaker (IsJudgedBySeen p.catalog p.ue first ts) (IsRight p j) (λ i is. right_one p j first ts i published is) items (all_judged_later p first seen ts items begins all)
 
 pub right_slots : (p : Setting) (j : Journal) (items : List Item) → All (IsRight p j) items → HasItsSlots p j items
 right_slots p j items all =

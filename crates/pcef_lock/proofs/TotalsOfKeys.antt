@@ -14,7 +14,7 @@ use Rattle.pcef_model.specs.Lawful.{Lawful}
 use Rattle.pcef_model.proofs.Exactness.{lawful_exact}
 use Rattle.pcef_session.specs.Agreement.{KeyAgrees, KeysAgree}
 use Rattle.pcef_handover.specs.Counting.{slot_total}
-use Rattle.pcef_lock.specs.Gathering.{AreGathered, gathered, key_totals, total_of}
+use Rattle.pcef_lock.specs.Gathering.{AreGathered, gathered, key_totals, key_total}
 use Rattle.pcef_lock.specs.HandedIn.{HandedIn}
 use Rattle.pcef_lock.specs.declared.key_totals.KeyTotal.{KeyTotal}
 use Rattle.pcef_lock.proofs.Places.{get_within}
@@ -37,7 +37,7 @@ key_at p j states n s agree is =
 -- what is kept of a key, and what its book holds, are its total
 pub total_here : (p : Setting) (j : Journal) (states : List KeyState) (amounts : List ℕ) (n : ℕ) (s : KeyState) → KeysAgree p j states → length states ≤ 8
     → ((k : ℕ) → k < 8 → slice_index amounts k ≡ slot_total p j k) → n < length states → s ≡ get_or states n s
-    → record { key = s.key; counted = slice_index amounts n; reported = s.reported; unreported = s.unreported } ≡ total_of p j s.key
+    → record { key = s.key; counted = slice_index amounts n; reported = s.reported; unreported = s.unreported } ≡ key_total p j s.key
 total_here p j states amounts n s agree few books within is =
     let here : slice_get states n ≡ Some s = stands states n s within is in
     let agrees : KeyAgrees p j s = agrees_at p j states n s agree.usage_is here in
@@ -48,39 +48,39 @@ total_here p j states amounts n s agree few books within is =
 
 -- the first `n` totals, with the next one
 pub totals_more : (p : Setting) (j : Journal) (states : List KeyState) (n : ℕ) (s : KeyState) → n < length states → s ≡ get_or states n s
-    → map (λ (x : KeyState). total_of p j x.key) (take (n + 1) states) ≡ map (λ (x : KeyState). total_of p j x.key) (take n states) ++ total_of p j s.key ∷ []
+    → map (λ (x : KeyState). key_total p j x.key) (take (n + 1) states) ≡ map (λ (x : KeyState). key_total p j x.key) (take n states) ++ key_total p j s.key ∷ []
 totals_more p j states n s within is =
-    let f : KeyState → KeyTotal = λ x. total_of p j x.key in
+    let f : KeyState → KeyTotal = λ x. key_total p j x.key in
     ap (map f) (take_more states n s within) ∙ map-append f (take n states) (get_or states n s ∷ []) ∙ ap (λ x. map f (take n states) ++ f x ∷ []) (sym is)
 
 -- all of them
-pub totals_whole : (p : Setting) (j : Journal) (states : List KeyState) → KeysAgree p j states → map (λ (x : KeyState). total_of p j x.key) states ≡ key_totals p j
-totals_whole p j states agree = from states ∙ ap (map (total_of p j)) agree.keys_are
+pub totals_whole : (p : Setting) (j : Journal) (states : List KeyState) → KeysAgree p j states → map (λ (x : KeyState). key_total p j x.key) states ≡ key_totals p j
+totals_whole p j states agree = from states ∙ ap (map (key_total p j)) agree.keys_are
   where
-    from : (xs : List KeyState) → map (λ (x : KeyState). total_of p j x.key) xs ≡ map (total_of p j) (map (λ (x : KeyState). x.key) xs)
+    from : (xs : List KeyState) → map (λ (x : KeyState). key_total p j x.key) xs ≡ map (key_total p j) (map (λ (x : KeyState). x.key) xs)
     from [] = refl
-    from (x ∷ xs) = ap (λ ts. total_of p j x.key ∷ ts) (from xs)
+    from (x ∷ xs) = ap (λ ts. key_total p j x.key ∷ ts) (from xs)
 
 -- ---- all keys
-counted_at : (p : Setting) (j : Journal) (n : ℕ) (o : Option (List ℕ)) (k : KeyTotal) → slice_get (slots p j) n ≡ o → option_map (total_of p j) o ≡ Some k → k.counted ≡ slot_total p j n
+counted_at : (p : Setting) (j : Journal) (n : ℕ) (o : Option (List ℕ)) (k : KeyTotal) → slice_get (slots p j) n ≡ o → option_map (key_total p j) o ≡ Some k → k.counted ≡ slot_total p j n
 counted_at p j n None k is total = absurd cc
 counted_at p j n (Some key) k is total =
-    let same : total_of p j key ≡ k = cc in
+    let same : key_total p j key ≡ k = cc in
     ap (λ (t : KeyTotal). t.counted) (sym same) ∙ sym (ap (λ o. option_map_or (counted p j) o 0) is)
 
 -- what was counted for the key of each slot is what was gathered for it
 pub totals_gathered : (p : Setting) (j : Journal) (amounts : List ℕ) (handed : List HandedIn) → length (slots p j) ≤ 8
     → ((n : ℕ) → n < 8 → slice_index amounts n ≡ slot_total p j n) → ((n : ℕ) → n < 8 → slice_index amounts n ≡ gathered n handed) → AreGathered (key_totals p j) handed
 totals_gathered p j amounts handed few books shares n k is =
-    let there : option_map (total_of p j) (slice_get (slots p j) n) ≡ Some k = sym (slice_get-map (total_of p j) (slots p j) n) ∙ is in
+    let there : option_map (key_total p j) (slice_get (slots p j) n) ≡ Some k = sym (slice_get-map (key_total p j) (slots p j) n) ∙ is in
     let within : n < length (key_totals p j) = get_within (key_totals p j) n k is in
-    let below : n < 8 = omega (arith, within, few, length-map (slots p j) (total_of p j)) in
+    let below : n < 8 = omega (arith, within, few, length-map (slots p j) (key_total p j)) in
     counted_at p j n (slice_get (slots p j) n) k refl there ∙ sym (books n below) ∙ shares n below
 
-sums_of : (p : Setting) (j : Journal) → ((key : List ℕ) → reported j key ≤ counted p j key) → (keys : List (List ℕ)) → All (λ (k : KeyTotal). k.counted ≡ k.reported + k.unreported) (map (total_of p j) keys)
+sums_of : (p : Setting) (j : Journal) → ((key : List ℕ) → reported j key ≤ counted p j key) → (keys : List (List ℕ)) → All (λ (k : KeyTotal). k.counted ≡ k.reported + k.unreported) (map (key_total p j) keys)
 sums_of p j exact [] = All-nil (λ (k : KeyTotal). k.counted ≡ k.reported + k.unreported)
 sums_of p j exact (key ∷ keys) =
-    All-cons (λ (k : KeyTotal). k.counted ≡ k.reported + k.unreported) (total_of p j key) (map (total_of p j) keys) (omega (arith, exact key)) (sums_of p j exact keys)
+    All-cons (λ (k : KeyTotal). k.counted ≡ k.reported + k.unreported) (key_total p j key) (map (key_total p j) keys) (omega (arith, exact key)) (sums_of p j exact keys)
 
 -- it is reported or unreported
 pub totals_exact : (p : Setting) (j : Journal) → Lawful p j → All (λ (k : KeyTotal). k.counted ≡ k.reported + k.unreported) (key_totals p j)

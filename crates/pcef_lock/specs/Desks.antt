@@ -34,7 +34,7 @@ abbrev pub first_books : Journal → Account
 first_books j = record { totals = desk_shares j; issued = 1 }
 
 -- an answer to a command is one that is due: after some lawful journal, and of a session on a pool in some room
-abbrev pub IsDue : Setting → Bool → Command → Result Accepted Refusal → Type 0
-IsDue p is_there command result =
+abbrev pub IsAnswerDue : Setting → Bool → Command → Result Accepted Refusal → Type 0
+IsAnswerDue p is_there command result =
     (room : Option Sums) × (is_some room ≡ is_there) × (before : Journal) × (after : Journal) × Lawful p before
     × CommandStepWithin p room command before result after

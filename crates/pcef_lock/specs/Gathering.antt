@@ -30,12 +30,12 @@ abbrev pub HaveLanes : Journal → List HandedIn → Type 0
 HaveLanes j handed = (worker : ℕ) → worker < attach_count j → HasLane j handed worker
 
 -- the octets of a row, for each of its slots that is this one
-abbrev pub octets_at : ℕ → Item → ℕ
-octets_at slot i = sum_by (λ s. if slot == s.0 then i.row.header.octets else 0) i.slots.items
+abbrev pub row_octets : ℕ → Item → ℕ
+row_octets slot i = sum_by (λ s. if slot == s.0 then i.row.header.octets else 0) i.slots.items
 
 -- the octets of rows that count for a slot
 abbrev pub octets_for : ℕ → List Item → ℕ
-octets_for slot items = sum_by (octets_at slot) items
+octets_for slot items = sum_by (row_octets slot) items
 
 -- over all that is handed in: the octets that count for a slot, and the rows that were abandoned
 abbrev pub gathered : ℕ → List HandedIn → ℕ
@@ -46,8 +46,8 @@ rows_abandoned handed = sum_by abandoned_by handed
 
 -- ---- what the journal says
 -- the totals of a key
-abbrev pub total_of : Setting → Journal → List ℕ → KeyTotal
-total_of p j key = record {
+abbrev pub key_total : Setting → Journal → List ℕ → KeyTotal
+key_total p j key = record {
   key = key;
   counted = counted p j key;
   reported = reported j key;
@@ -56,7 +56,7 @@ total_of p j key = record {
 
 -- the totals of the keys that have a slot, in slot order
 abbrev pub key_totals : Setting → Journal → List KeyTotal
-key_totals p j = map (total_of p j) (slots p j)
+key_totals p j = map (key_total p j) (slots p j)
 
 -- what was counted for the key of each slot is what the own lists have for it
 abbrev pub AreGathered : List KeyTotal → List HandedIn → Type 0

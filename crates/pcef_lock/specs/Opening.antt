@@ -6,7 +6,7 @@ use Rattle.pcef_model.specs.Setting.{Setting}
 use Rattle.pcef_publish.specs.Lists.{Opening}
 use Rattle.pcef_session.specs.Answers.{ShowsNewest}
 use Rattle.pcef_session.specs.SessionModel.{SessionModel}
-use Rattle.pcef_share.specs.Names.{name_at}
+use Rattle.pcef_share.specs.Names.{ledger_at}
 use Rattle.pcef_lock.specs.declared.opening.SharedFault.{SharedFault}
 use Rattle.pcef_lock.specs.declared.opening.SharedFault.TheVariants.{NoMemory, Places, PoolPlaces, ReaderRefused}
 use Rattle.pcef_publish.specs.declared.publisher.PublishFault.{PublishFault}
@@ -15,7 +15,7 @@ use Rattle.pcef_publish.specs.declared.publisher.PublishFault.TheVariants as pub
 -- its name: the numbers of its ledgers, its setting, its first generation, and the history of its tables. They are those
 -- of these blanks, of this session, and of a history that was opened with the session's newest table
 pub record GoesBy (ledger : ℕ → ℕ) (setting : Setting) (first : ℕ) (book : Book) (root : ℕ) (s : SessionModel) (opened : Opening) (blanks : List ℕ) : Type 0 where
-  pub ledger_is : ledger ≡ name_at blanks
+  pub ledger_is : ledger ≡ ledger_at blanks
   pub setting_is : s.setting ≡ setting
   pub first_is : first ≡ gen s.journal
   pub table : ShowsNewest s opened.table

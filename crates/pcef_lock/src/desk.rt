@@ -4,7 +4,7 @@ ghost use Rattle.std.specs.Prelude.{◌≡◌, ◌+◌, ◌⊎◌, Err, IfOk, On
 ghost use Rattle.pcef_model.specs.Entries.{commands};
 ghost use Rattle.pcef_model.specs.declared.answer.Refusal.TheVariants.{NoMemory};
 ghost use Rattle.pcef_share.specs.Amounts.{command_ledger, plus, zeros};
-ghost use Rattle.pcef_lock.specs.Desks.{IsDue, listed};
+ghost use Rattle.pcef_lock.specs.Desks.{IsAnswerDue, listed};
 ghost use Rattle.pcef_lock.specs.Reports.{AreNumbered};
 
 use crate::shared::Shared;
@@ -110,7 +110,7 @@ impl<N: Naming> Desk<N> {
     ) -> Result<Accepted, Refusal>
         ensures list { self.new.commands ≡ listed result command self.old.commands }
         ensures collected { self.new.collected ≡ self.old.collected }
-        ensures due { (result ≡ Err NoMemory) ⊎ IsDue N.setting P.is_there command result }
+        ensures due { (result ≡ Err NoMemory) ⊎ IsAnswerDue N.setting P.is_there command result }
     {
         let Ok(copy) = command.copy() else {
             return Err(Refusal::NoMemory);

@@ -1,7 +1,7 @@
 //! The lock of a pool.
 
 ghost use Rattle.std.specs.Prelude.{◌≡◌, ◌≤◌, ◌<◌, ◌↔◌, IfOk, IfErr, IfSome, IsOk, length};
-ghost use Rattle.pcef_share.specs.Names.{name_at};
+ghost use Rattle.pcef_share.specs.Names.{ledger_at};
 ghost use Rattle.pcef_share.specs.Rates.{no_rates, sum_of_rates};
 ghost use Rattle.pcef_pool.specs.Pools.{GrantsExactly};
 ghost use Rattle.pcef_pool.specs.declared.pool_state.PoolFault.TheVariants.{OutOfRange};
@@ -27,7 +27,7 @@ impl<P: Pooling> Drop for Pool<P> {
 impl<P: Pooling> Pool<P> {
     /// As [`PoolState::new`], behind a lock: every hold finds a pool of this capacity. Takes no memory.
     pub fn new(capacity: Sums, blanks: RateBlanks) -> Result<Pool<P>, PoolFault>
-        requires name { P.ledger ≡ name_at blanks }
+        requires name { P.ledger ≡ ledger_at blanks }
         requires capacity { P.capacity ≡ capacity }
         ensures within { IsOk result
             ↔ ((capacity.up ≤ 1099511627775) × (capacity.down ≤ 1099511627775)) }

@@ -4,7 +4,7 @@ ghost use Rattle.std.specs.Prelude.{◌≡◌, ◌≤◌, ◌+◌, ◌<◌, ◌^
 ghost use Rattle.std.specs.Arc.{arc_value};
 ghost use Rattle.pcef_share.specs.Amounts.{zeros};
 ghost use Rattle.pcef_handover.specs.Counting.{with_command, with_taken};
-ghost use Rattle.pcef_lock.specs.Desks.{IsDue};
+ghost use Rattle.pcef_lock.specs.Desks.{IsAnswerDue};
 ghost use Rattle.pcef_lock.specs.Gathering.{AddUpTo, IsAtFault};
 ghost use Rattle.pcef_lock.specs.HandedIn.{abandoned_with, finished_with};
 ghost use Rattle.pcef_lock.specs.Judging.{AllJudged};
@@ -121,7 +121,7 @@ impl<'p, C: Offers + Drop, N: Naming, W: Board<Cell<N>> + Drop, P: Pooling> Shar
         command: Command,
     ) -> Result<Accepted, Refusal>
         ensures shares { shares.new ≡ with_command result shares.old }
-        ensures due { IsDue N.setting P.is_there command result }
+        ensures due { IsAnswerDue N.setting P.is_there command result }
     {
         let mut state = self.state.lock(rt);
         // For what it says of the journal, here and below: that it is lawful.

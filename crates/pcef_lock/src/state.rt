@@ -6,7 +6,7 @@ ghost use Rattle.pcef_model.specs.Refusals.{total_now};
 ghost use Rattle.pcef_model.specs.Entries.{commands};
 ghost use Rattle.pcef_model.specs.Journals.{attach_count};
 ghost use Rattle.pcef_model.specs.Lawful.{Lawful};
-ghost use Rattle.pcef_share.specs.Names.{name_at};
+ghost use Rattle.pcef_share.specs.Names.{ledger_at};
 ghost use Rattle.pcef_lock.specs.Outcomes.{AnswersSeat, with_share};
 ghost use Rattle.pcef_handover.specs.Counting.{books_with_command, with_command};
 ghost use Rattle.pcef_lock.specs.Desks.{desk_shares, first_books};
@@ -115,7 +115,7 @@ impl<N: Naming, W: Board<Cell<N>> + Drop, P: Pooling> State<N, W, P> {
         rates: Option<RateShares<P>>,
         places: u8,
     ) -> (State<N, W, P>, Shares<N>)
-        requires name { N.ledger ≡ name_at blanks }
+        requires name { N.ledger ≡ ledger_at blanks }
         requires setting { session.session.setting ≡ N.setting }
         requires fresh { attach_count session.session.journal ≡ 0 }
         requires published { ArePublished N.setting session.session.journal N.first publisher }

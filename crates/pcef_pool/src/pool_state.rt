@@ -3,7 +3,7 @@
 ghost use Rattle.std.specs.Prelude.{◌≡◌, ◌≤◌, ◌<◌, ◌+◌, ◌↔◌, ◌⊎◌, IfErr, IfOk, IfSome, IsOk, OnErr, OnOk, is_none, length, true, false};
 ghost use Rattle.std.specs.Result.{result_err};
 ghost use Rattle.pcef_model.specs.Refusals.{first_of};
-ghost use Rattle.pcef_share.specs.Names.{name_at};
+ghost use Rattle.pcef_share.specs.Names.{ledger_at};
 ghost use Rattle.pcef_share.specs.Rates.{no_rates, sum_of_rates};
 ghost use Rattle.pcef_pool.specs.Pools.{GrantsExactly, IsPart, IsPool, pool_faults, pool_with, room_beside, with_rate_share};
 ghost use Rattle.pcef_pool.specs.declared.pool_state.PoolFault.TheVariants.{OutOfRange};
@@ -67,7 +67,7 @@ impl<P: Pooling> PoolState<P> {
     /// 1,099,511,627,775 in a direction. The blanks and the capacity are those that the name stands for. Takes no
     /// memory.
     pub fn new(capacity: Sums, blanks: RateBlanks) -> Result<PoolState<P>, PoolFault>
-        requires name { P.ledger ≡ name_at blanks }
+        requires name { P.ledger ≡ ledger_at blanks }
         requires capacity { P.capacity ≡ capacity }
         ensures made { IfOk result (λ s. s ≡ record {
           capacity = capacity;

@@ -2,7 +2,7 @@
 
 ghost use Rattle.std.specs.Prelude.{◌≡◌, ◌<◌, IfOk, Some, length, slice_get};
 ghost use Rattle.std.specs.Result.{result_err};
-ghost use Rattle.pcef_share.specs.Names.{name_at};
+ghost use Rattle.pcef_share.specs.Names.{ledger_at};
 ghost use Rattle.pcef_pooled.specs.Granting.{AnswersAt, KeepsOthers, PoolIsExact, granted_to, settings_of};
 ghost use Rattle.pcef_pooled.specs.Opening.{AreOpened, OpensOn};
 
@@ -55,7 +55,7 @@ impl<P: Pooling> Pooled<P> {
         profiles: Vec<(Profile, Listing)>,
         blanks: RateBlanks,
     ) -> Result<Pooled<P>, PooledFault>
-        requires name { P.ledger ≡ name_at blanks }
+        requires name { P.ledger ≡ ledger_at blanks }
         requires capacity { P.capacity ≡ capacity }
         ensures answer { OpensOn capacity profiles.items (result_err result) }
         ensures sessions { IfOk result (λ p. AreOpened profiles.items p.sessions) }

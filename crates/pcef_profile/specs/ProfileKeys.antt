@@ -58,8 +58,8 @@ abbrev pub each_table : (Members → Bool) → Items → Bool
 each_table test no_items = true
 each_table test (item d ds) = if_there test (as_table d) && each_table test ds
 
-abbrev pub is_known : Members → Bool
-is_known ms =
+abbrev pub has_known_keys : Members → Bool
+has_known_keys ms =
     ((keys_known keys_of_profile ms
     && if_there (keys_known keys_of_default) (inner_of key.Default ms))
     && if_there (keys_known keys_of_capacity) (inner_of key.Capacity ms))

@@ -26,19 +26,19 @@ abbrev pub whole : ℤ → Option ℕ
 whole (pos n) = Some n
 whole (negsuc n) = None
 
-unfoldable pub number_at : Key → ℕ → ℕ → Members → Result ℕ ReadProfileFault
-number_at name least most ms = do
+unfoldable pub number_for : Key → ℕ → ℕ → Members → Result ℕ ReadProfileFault
+number_for name least most ms = do
   value ← value_at name ms
   number ← or_fault BadValue (option_and_then whole (as_integer value))
   passing (is_from_to least most) BadValue number
 
-unfoldable pub flag_at : Key → Members → Result Bool ReadProfileFault
-flag_at name ms = do
+unfoldable pub flag_for : Key → Members → Result Bool ReadProfileFault
+flag_for name ms = do
   value ← value_at name ms
   or_fault BadValue (as_bool value)
 
-unfoldable pub text_at : Key → Members → Result (List ℕ) ReadProfileFault
-text_at name ms = do
+unfoldable pub text_for : Key → Members → Result (List ℕ) ReadProfileFault
+text_for name ms = do
   value ← value_at name ms
   or_fault BadValue (as_str value)
 
@@ -49,42 +49,42 @@ table_at name ms = do
 
 unfoldable pub address_at : Key → Members → Result Addr ReadProfileFault
 address_at name ms = do
-  text ← text_at name ms
+  text ← text_for name ms
   or_fault BadValue (address_of text)
 
 unfoldable pub qos_at : Key → Members → Result Qos ReadProfileFault
 qos_at name ms = do
   inner ← table_at name ms
-  qci ← number_at key.Qci 0 255 inner
-  level ← number_at key.Level 1 15 inner
-  capability ← flag_at key.Capability inner
-  vulnerability ← flag_at key.Vulnerability inner
+  qci ← number_for key.Qci 0 255 inner
+  level ← number_for key.Level 1 15 inner
+  capability ← flag_for key.Capability inner
+  vulnerability ← flag_for key.Vulnerability inner
   Ok (record { qci = record { 0 = qci }; arp = record { level = level; capability = capability; vulnerability = vulnerability } })
 
 unfoldable pub capacity_at : Key → ℕ → Members → Result Sums ReadProfileFault
 capacity_at name most ms = do
   inner ← table_at name ms
-  up ← number_at key.Up 0 most inner
-  down ← number_at key.Down 0 most inner
+  up ← number_for key.Up 0 most inner
+  down ← number_for key.Down 0 most inner
   Ok (record { up = up; down = down })
 
 -- TS 23.203, table 6.1.7
-abbrev pub kind_of : List ℕ → Option Kind
-kind_of text =
+abbrev pub qci_kind : List ℕ → Option Kind
+qci_kind text =
     if bytes_eq text (codes "GBR") then Some Gbr
     else if bytes_eq text (codes "NON-GBR") then Some NonGbr
     else None
 
 unfoldable pub kind_at : Key → Members → Result Kind ReadProfileFault
 kind_at name ms = do
-  text ← text_at name ms
-  or_fault BadValue (kind_of text)
+  text ← text_for name ms
+  or_fault BadValue (qci_kind text)
 
 -- a QCI and the kind that is declared for it
 unfoldable pub declaration_of : Data → Result (ℕ × Kind) ReadProfileFault
 declaration_of d = do
   inner ← or_fault BadValue (as_table d)
-  qci ← number_at key.Qci 0 255 inner
+  qci ← number_for key.Qci 0 255 inner
   kind ← kind_at key.Kind inner
   Ok (qci, kind)
 

@@ -1,8 +1,8 @@
 //! Why a profile can't be read.
 
 ghost use Rattle.std.specs.Prelude.{◌≡◌};
-ghost use Rattle.pcef_profile.specs.Explanations.{fault_name};
-ghost use Rattle.pcef_profile.specs.ProfileOf.{fault_number};
+ghost use Rattle.pcef_profile.specs.Explanations.{profile_fault_name};
+ghost use Rattle.pcef_profile.specs.ProfileOf.{profile_fault_number};
 ghost use Rattle.pcef_profile.specs.declared.fault.ReadProfileFault.TheVariants.{NoMemory};
 
 use std::alloc::AllocFailed;
@@ -63,7 +63,7 @@ impl<T: Drop> From<AllocFailed<T>> for ReadProfileFault {
 impl ReadProfileFault {
     /// The name of the fault.
     pub fn name(self) -> &'static str
-        ensures { result.now ≡ fault_name self }
+        ensures { result.now ≡ profile_fault_name self }
     {
         match self {
             ReadProfileFault::NotToml => "NotToml",
@@ -78,7 +78,7 @@ impl ReadProfileFault {
 
     /// The number of the fault, 1 to 7.
     pub fn number(self) -> u8
-        ensures { result ≡ fault_number self }
+        ensures { result ≡ profile_fault_number self }
     {
         match self {
             ReadProfileFault::NotToml => 1,

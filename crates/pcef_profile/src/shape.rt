@@ -4,7 +4,7 @@ ghost use Rattle.std.specs.Prelude.{◌≡◌, option_map};
 ghost use Rattle.toml.specs.Data.{get_member, as_table};
 ghost use Rattle.toml.specs.View.{view, table_view, items_view};
 ghost use Rattle.pcef_lists.specs.Readings.{if_there, names_one_of};
-ghost use Rattle.pcef_profile.specs.ProfileKeys.{key_text, keys_of_declared, inner_of, entries_of, each_table, keys_known, keys_there, is_known, is_whole};
+ghost use Rattle.pcef_profile.specs.ProfileKeys.{key_text, keys_of_declared, inner_of, entries_of, each_table, keys_known, keys_there, has_known_keys, is_whole};
 
 use crate::key::Key;
 use std::fmt::{self, Display, Formatter, Write};
@@ -108,7 +108,7 @@ fn entries_are_whole(values: &[Value]) -> bool
 
 /// Whether the profile and the tables in it have only keys that they may have.
 pub(crate) fn is_known(table: &Table) -> bool
-    ensures { result ≡ is_known (table_view table.now) }
+    ensures { result ≡ has_known_keys (table_view table.now) }
 {
     keys_are_known(OF_PROFILE, table)
         && inner(table, Key::Default).is_none_or(|table| keys_are_known(OF_DEFAULT, table))

@@ -2,7 +2,7 @@
 
 ghost use Rattle.std.specs.Prelude.{◌≡◌, ◌≤◌, IfOk};
 ghost use Rattle.toml.specs.View.{view, table_view, items_view};
-ghost use Rattle.pcef_profile.specs.ProfileValues.{Gives, value_at, number_at, flag_at, table_at, text_at, address_at, qos_at, capacity_at, kind_of, kind_at, declaration_of, declarations_of, declarations_at};
+ghost use Rattle.pcef_profile.specs.ProfileValues.{Gives, value_at, number_for, flag_for, table_at, text_for, address_at, qos_at, capacity_at, qci_kind, kind_at, declaration_of, declarations_of, declarations_at};
 
 use crate::fault::ReadProfileFault;
 use crate::key::Key;
@@ -24,14 +24,14 @@ fn value_at(table: &Table, key: Key) -> Result<&Value, ReadProfileFault>
 }
 
 /// A key's integer, from `least` to `most`.
-#[tactic(auto, unfolding(crate::specs::ProfileValues::number_at))]
+#[tactic(auto, unfolding(crate::specs::ProfileValues::number_for))]
 pub(crate) fn number_at(
     table: &Table,
     key: Key,
     least: u64,
     most: u64,
 ) -> Result<u64, ReadProfileFault>
-    ensures exact { Gives (λ n. n) result (number_at key least most (table_view table.now)) }
+    ensures exact { Gives (λ n. n) result (number_for key least most (table_view table.now)) }
     ensures least { IfOk result (λ n. least ≤ n) }
     ensures most { IfOk result (λ n. n ≤ most) }
 {
@@ -48,9 +48,9 @@ pub(crate) fn number_at(
     }
 }
 
-#[tactic(auto, unfolding(crate::specs::ProfileValues::flag_at))]
+#[tactic(auto, unfolding(crate::specs::ProfileValues::flag_for))]
 fn flag_at(table: &Table, key: Key) -> Result<bool, ReadProfileFault>
-    ensures { Gives (λ b. b) result (flag_at key (table_view table.now)) }
+    ensures { Gives (λ b. b) result (flag_for key (table_view table.now)) }
 {
     match value_at(table, key)?.as_bool() {
         Some(flag) => Ok(flag),
@@ -68,9 +68,9 @@ fn table_at(table: &Table, key: Key) -> Result<&Table, ReadProfileFault>
     }
 }
 
-#[tactic(auto, unfolding(crate::specs::ProfileValues::text_at))]
+#[tactic(auto, unfolding(crate::specs::ProfileValues::text_for))]
 fn text_at(table: &Table, key: Key) -> Result<&str, ReadProfileFault>
-    ensures { Gives (λ t. t.now) result (text_at key (table_view table.now)) }
+    ensures { Gives (λ t. t.now) result (text_for key (table_view table.now)) }
 {
     match value_at(table, key)?.as_str() {
         Some(text) => Ok(text),
@@ -119,7 +119,7 @@ pub(crate) fn capacity_at(table: &Table, key: Key, most: u64) -> Result<Sums, Re
 }
 
 fn kind_of(text: &str) -> Option<Kind>
-    ensures { result ≡ kind_of text.now }
+    ensures { result ≡ qci_kind text.now }
 {
     match text {
         "GBR" => Some(Kind::Gbr),

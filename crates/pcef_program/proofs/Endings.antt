@@ -31,8 +31,8 @@ use Rattle.pcef_program.specs.declared.end.End.{End}
 use Rattle.pcef_program.specs.declared.end.End.TheVariants as ending
 use Rattle.pcef_program.specs.Ends.{IsPlanEnd, end_status, lines_end, pool_end, profile_end, script_end, unread_end}
 use Rattle.pcef_program.specs.PlanRuns.{RanPlan}
-use Rattle.pcef_program.specs.PoolEnds.{EndsPool, IsUnread, IsWholePool, Text}
-use Rattle.pcef_program.specs.Programs.{Ends, EndsAsked, EndsOne, IsWhole, IsWholeAsked, IsWholeOne, IsWholeRun, IsWholeScript, Ran, RanScript, asked, asked_pool}
+use Rattle.pcef_program.specs.PoolEnds.{EndsPool, IsProfileUnread, IsWholePool, Text}
+use Rattle.pcef_program.specs.Programs.{Ends, EndsAsked, EndsOne, IsWhole, IsWholeAsked, IsWholeOne, IsWholeRun, IsWholeScript, RanScriptOrPlan, RanScript, asked, asked_pool}
 use Rattle.pcef_program.specs.Words.{workers_of}
 
 -- ---- statuses
@@ -106,7 +106,7 @@ run_whole offers text terms workers (ending.Line first said) before left old new
 run_whole offers text terms workers (ending.Run fault) before left old new gives ran zero = absurd (not_zero 4 (omega arith) zero)
 
 as_asked : (offers : List Offer) (workers : Option ℕ) (text : String Global) (terms : ProfileModel) (end : End) (before left old new : Option (List ℕ)) → GivesProfile (Ok terms) (ProfileOf (string_bytes text))
-    → Ran workers (setting_of terms offers) end before left old new → end_status end ≡ 0 → IsWholeOne offers workers (Some (Ok text)) before left old new
+    → RanScriptOrPlan workers (setting_of terms offers) end before left old new → end_status end ≡ 0 → IsWholeOne offers workers (Some (Ok text)) before left old new
 as_asked offers None text terms end before left old new gives ran zero = ran_whole offers text terms end before left old new gives ran zero
 as_asked offers (Some workers) text terms end before left old new gives ran zero = run_whole offers text terms workers end before left old new gives ran zero
 
@@ -135,7 +135,7 @@ plan_status plan.NoMemory end is zero = not_zero 3 (omega arith) (sym (ap end_st
 plan_status (plan.Line first) end (inl (text, is, said)) zero = not_zero 1 (omega arith) (sym (ap end_status is) ∙ zero)
 plan_status (plan.Line first) end (inr is) zero = not_zero 3 (omega arith) (sym (ap end_status is) ∙ zero)
 
-text_status : (text : Text) (end : End) → IsUnread text end → end_status end ≡ 0 → ⊥
+text_status : (text : Text) (end : End) → IsProfileUnread text end → end_status end ≡ 0 → ⊥
 text_status (Ok text) end (inl is) zero = not_zero 3 (omega arith) (sym (ap end_status is) ∙ zero)
 text_status (Ok text) end (inr (fault, gives, is)) zero = profile_status fault (sym (ap end_status is) ∙ zero)
 text_status (Err error) end is zero = unread_status (error_kind error) (sym (ap end_status is) ∙ zero)

@@ -5,12 +5,12 @@ use Rattle.std.specs.declared.io.ErrorKind.{ErrorKind}
 use Rattle.std.specs.declared.io.ErrorKind.TheVariants.{OutOfMemory}
 use Rattle.pcef_model.specs.declared.answer.OpenFault.{OpenFault}
 use Rattle.pcef_model.specs.declared.answer.OpenFault.TheVariants as opening
-use Rattle.pcef_profile.specs.ProfileOf.{fault_number}
+use Rattle.pcef_profile.specs.ProfileOf.{profile_fault_number}
 use Rattle.pcef_profile.specs.declared.fault.ReadProfileFault.{ReadProfileFault}
 use Rattle.pcef_profile.specs.declared.fault.ReadProfileFault.TheVariants as profile
 use Rattle.pcef_script.specs.declared.fault.ScriptFault.{ScriptFault}
 use Rattle.pcef_script.specs.declared.fault.ScriptFault.TheVariants as script
-use Rattle.pcef_gateway.specs.Faults.{number_of}
+use Rattle.pcef_gateway.specs.Faults.{run_fault_number}
 use Rattle.pcef_run.specs.declared.fault.PlanFault.{PlanFault}
 use Rattle.pcef_run.specs.declared.fault.PlanFault.TheVariants as plan
 use Rattle.pcef_run.specs.declared.fault.RunEnd.{RunEnd}
@@ -40,7 +40,7 @@ end_status (end.Run fault) = 4
 abbrev pub end_text : End → List ℕ
 end_text end.Done = []
 end_text end.LinesAtFault = []
-end_text (end.Profile fault) = codes "profile fault " ++ (48 + fault_number fault) ∷ 10 ∷ []
+end_text (end.Profile fault) = codes "profile fault " ++ (48 + profile_fault_number fault) ∷ 10 ∷ []
 end_text end.Usage = codes "usage: pcef script PROFILE | pcef run PROFILE WORKERS | pcef pool UP DOWN PROFILE..." ++ 10 ∷ []
 end_text end.NoMemory = codes "want of memory" ++ 10 ∷ []
 end_text end.NoProfile = codes "read fault" ++ 10 ∷ []
@@ -48,7 +48,7 @@ end_text end.Read = codes "read fault" ++ 10 ∷ []
 end_text end.TooMuch = codes "read fault" ++ 10 ∷ []
 end_text end.Write = codes "write fault" ++ 10 ∷ []
 end_text (end.Line first text) = string_bytes text
-end_text (end.Run fault) = codes "run fault " ++ (48 + number_of fault) ∷ 10 ∷ []
+end_text (end.Run fault) = codes "run fault " ++ (48 + run_fault_number fault) ∷ 10 ∷ []
 
 -- what is wrong with the line that doesn't fit
 abbrev pub end_reason : End → List ℕ

@@ -28,22 +28,22 @@ abbrev pub AsksFor : List Offer → Text → Asked → Type 0
 AsksFor offers (Ok text) asked = GivesProfile (Ok asked.0) (ProfileOf (string_bytes text)) × (asked.1 ≡ offers)
 AsksFor offers (Err error) asked = ⊥
 
-abbrev pub AskFor : List Offer → List Text → List Asked → Type 0
-AskFor offers [] asked = asked ≡ []
-AskFor offers (text ∷ texts) asked =
-    (first : Asked) × (others : List Asked) × (asked ≡ first ∷ others) × AsksFor offers text first × AskFor offers texts others
+abbrev pub TextsAskFor : List Offer → List Text → List Asked → Type 0
+TextsAskFor offers [] asked = asked ≡ []
+TextsAskFor offers (text ∷ texts) asked =
+    (first : Asked) × (others : List Asked) × (asked ≡ first ∷ others) × AsksFor offers text first × TextsAskFor offers texts others
 
 -- a profile that can't be read; there may be no memory for its session
-abbrev pub IsUnread : Text → End → Type 0
-IsUnread (Ok text) end =
+abbrev pub IsProfileUnread : Text → End → Type 0
+IsProfileUnread (Ok text) end =
     (end ≡ ending.NoMemory) ⊎ ((fault : ReadProfileFault) × GivesProfile (Err fault) (ProfileOf (string_bytes text)) × (end ≡ profile_end fault))
-IsUnread (Err error) end = end ≡ unread_end (error_kind error)
+IsProfileUnread (Err error) end = end ≡ unread_end (error_kind error)
 
 -- the first of them
 abbrev pub FirstUnread : List Offer → List Text → End → Type 0
 FirstUnread offers texts end =
     (front : List Text) × (text : Text) × (rest : List Text) × (asked : List Asked)
-    × (texts ≡ front ++ text ∷ rest) × AskFor offers front asked × IsUnread text end
+    × (texts ≡ front ++ text ∷ rest) × TextsAskFor offers front asked × IsProfileUnread text end
 
 -- ---- the run
 -- The orders were given to sessions that were opened on a pool, and what was written for that stayed so. How that went is the
@@ -62,12 +62,12 @@ RanPool capacity asked end before left old new =
 -- the profiles are read before that, in their order
 abbrev pub EndsPool : List Offer → Sums → List Text → End → Option (List ℕ) → Option (List ℕ) → Option (List ℕ) → Option (List ℕ) → Type 0
 EndsPool offers capacity texts end before left old new =
-    ((asked : List Asked) × AskFor offers texts asked × RanPool capacity asked end before left old new)
+    ((asked : List Asked) × TextsAskFor offers texts asked × RanPool capacity asked end before left old new)
     ⊎ (FirstUnread offers texts end × Keeps before left × Keeps old new)
 
 -- ---- status 0
 -- the whole input was read, and it is orders; the sessions answered all of them, and the answers and the last line are written
 abbrev pub IsWholePool : List Offer → Sums → List Text → Option (List ℕ) → Option (List ℕ) → Option (List ℕ) → Option (List ℕ) → Type 0
 IsWholePool offers capacity texts before left old new =
-    (asked : List Asked) × AskFor offers texts asked × (orders : Vec Order Global) × ReadsOrders (length asked) (Ok orders) before left
+    (asked : List Asked) × TextsAskFor offers texts asked × (orders : Vec Order Global) × ReadsOrders (length asked) (Ok orders) before left
     × RunsPool capacity asked orders.items (Ok tt) old new

@@ -41,13 +41,13 @@ RanScript p end before left old new =
     × ((end ≡ script_end result) ⊎ (end ≡ ending.Write))
 
 -- a script, or a plan with `workers` workers
-abbrev pub Ran : Option ℕ → Setting → End → Option (List ℕ) → Option (List ℕ) → Option (List ℕ) → Option (List ℕ) → Type 0
-Ran None p end before left old new = RanScript p end before left old new
-Ran (Some workers) p end before left old new = RanPlan p workers end before left old new
+abbrev pub RanScriptOrPlan : Option ℕ → Setting → End → Option (List ℕ) → Option (List ℕ) → Option (List ℕ) → Option (List ℕ) → Type 0
+RanScriptOrPlan None p end before left old new = RanScript p end before left old new
+RanScriptOrPlan (Some workers) p end before left old new = RanPlan p workers end before left old new
 
 abbrev pub EndsBy : List Offer → Option ℕ → Result ProfileModel ReadProfileFault → End → Option (List ℕ) → Option (List ℕ) → Option (List ℕ) → Option (List ℕ) → Type 0
 EndsBy offers workers (Ok profile) end before left old new =
-    Ran workers (setting_of profile offers) end before left old new
+    RanScriptOrPlan workers (setting_of profile offers) end before left old new
 EndsBy offers workers (Err fault) end before left old new = (end ≡ profile_end fault) × IsUntouched before left old new
 
 -- that is run on the session of its profile, or the end is the profile's

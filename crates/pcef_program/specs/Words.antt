@@ -5,9 +5,7 @@ use Rattle.std.specs.Str.{all_ascii_digits, bytes_eq}
 use Rattle.std.specs.Str.Parse.{digits_value}
 use Rattle.std.specs.declared.alloc.Global.{Global}
 use Rattle.pcef_rule.specs.declared.quantity.Sums.{Sums}
-
-abbrev pub is_between : ℕ → ℕ → ℕ → Bool
-is_between low high b = nat_le low b && nat_le b high
+use Rattle.pcef_run.specs.Orders.{is_between}
 
 -- 1 to 16, in decimal digits without a sign and without a zero before them
 abbrev pub workers_in : List ℕ → Option ℕ

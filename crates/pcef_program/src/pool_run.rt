@@ -3,7 +3,7 @@
 ghost use Rattle.std.specs.Prelude.{IfErr, IfOk, length};
 ghost use Rattle.pcef_catalog.specs.Catalogs.{offers_of};
 ghost use Rattle.pcef_run.specs.PoolRuns.{AreFor};
-ghost use Rattle.pcef_program.specs.PoolEnds.{AskFor, AsksFor, EndsPool, FirstUnread, IsUnread, RanOrders, RanPool};
+ghost use Rattle.pcef_program.specs.PoolEnds.{TextsAskFor, AsksFor, EndsPool, FirstUnread, IsProfileUnread, RanOrders, RanPool};
 
 use crate::end::{End, plan_end, pool_end, profile_end, unread_end};
 use pcef_catalog::{Catalog, Listing, Offers};
@@ -21,7 +21,7 @@ fn read_one(
     catalog: &Catalog,
 ) -> Result<(Profile, Listing), End>
     ensures asked { IfOk result (λ a. AsksFor (offers_of catalog.now) profile.now a) }
-    ensures unread { IfErr result (λ e. IsUnread profile.now e) }
+    ensures unread { IfErr result (λ e. IsProfileUnread profile.now e) }
 {
     let text = match profile {
         Ok(text) => text,
@@ -44,7 +44,7 @@ fn read_profiles(
     profiles: &[io::Result<String>],
     catalog: &Catalog,
 ) -> Result<Vec<(Profile, Listing)>, End>
-    ensures asked { IfOk result (λ v. AskFor (offers_of catalog.now) profiles.now v.items) }
+    ensures asked { IfOk result (λ v. TextsAskFor (offers_of catalog.now) profiles.now v.items) }
     ensures unread { IfErr result (λ e. FirstUnread (offers_of catalog.now) profiles.now e) }
 {
     let mut asked = Vec::new(alloc);

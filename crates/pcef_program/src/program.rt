@@ -6,7 +6,7 @@ ghost use Rattle.pcef_catalog.specs.Catalogs.{offers_of};
 ghost use Rattle.pcef_model.specs.ProfileModel.{setting_of};
 ghost use Rattle.pcef_program.specs.declared.end.End.{End};
 ghost use Rattle.pcef_program.specs.Ends.{end_status};
-ghost use Rattle.pcef_program.specs.Programs.{Ends, EndsOne, IsWhole, Ran, RanScript, asked, asked_pool};
+ghost use Rattle.pcef_program.specs.Programs.{Ends, EndsOne, IsWhole, RanScriptOrPlan, RanScript, asked, asked_pool};
 ghost use Rattle.pcef_program.specs.EndWriting.{WritesEnd};
 
 use crate::end::{End, profile_end, script_end, unread_end};
@@ -54,7 +54,7 @@ fn run_as_asked<T: Threads + Wait + Sync, R: Read, W: Write>(
     reader: &mut R,
     writer: &mut W,
 ) -> End
-    ensures { Ran workers (setting_of profile (offers_of (arc_value environment.entry.catalog))) result
+    ensures { RanScriptOrPlan workers (setting_of profile (offers_of (arc_value environment.entry.catalog))) result
         (R.remaining reader.old) (R.remaining reader.new)
         (W.contents writer.old) (W.contents writer.new) }
 {

@@ -4,7 +4,7 @@ ghost use Rattle.std.specs.Prelude.{◌≡◌, ◌+◌, length, IfOk, MatchBool}
 ghost use mathlib.Core.List.{IsPrefix};
 ghost use Rattle.std.specs.Arc.{arc_value};
 ghost use Rattle.pcef_table.specs.Tables.{IsTable};
-ghost use Rattle.pcef_publish.specs.Lists.{Ends, IsLonger, IsSeen};
+ghost use Rattle.pcef_publish.specs.Lists.{EndsWith, IsLonger, IsSeen};
 
 use crate::front::Front;
 use pcef_index::Indexed;
@@ -30,19 +30,19 @@ impl<N: Naming> Model for Publication<N> {
     ghost use Rattle.std.specs.Prelude.{List};
     ghost use Rattle.std.specs.Arc.{arc_value};
     ghost use Rattle.pcef_table.specs.Tables.{TableValue};
-    ghost use Rattle.pcef_publish.specs.Lists.{Ends};
+    ghost use Rattle.pcef_publish.specs.Lists.{EndsWith};
 
     ghost Value = { List TableValue };
 
     ghost view = { λ e. e.front };
 
-    ghost invariant = { λ e. Ends e.front (arc_value e.table) };
+    ghost invariant = { λ e. EndsWith e.front (arc_value e.table) };
 }
 
 impl<N: Naming> Publication<N> {
     /// A table, with the beginning of the history that ends with it.
     pub fn new(table: Arc<Indexed>, front: Front<N>) -> Publication<N>
-        requires { Ends front (arc_value table) }
+        requires { EndsWith front (arc_value table) }
         ensures { result ≡ front }
     {
         Publication { table, front }
@@ -69,7 +69,7 @@ impl<N: Naming> Publication<N> {
     #[tactic(auto, using(crate::proofs::Runs::run_length, crate::proofs::Runs::run_seen, crate::proofs::Runs::run_table))]
     pub fn current(&self) -> (u32, &Arc<Indexed>)
         ensures number { result.0 ≡ (arc_value result.1.now).number }
-        ensures last { Ends self.now (arc_value result.1.now) }
+        ensures last { EndsWith self.now (arc_value result.1.now) }
         ensures count { result.0 + 1 ≡ N.first + length self.now }
         ensures seen { IsSeen N.first self.now result.0 (arc_value result.1.now) }
         ensures table { IsTable N.setting.catalog (arc_value result.1.now).entries }

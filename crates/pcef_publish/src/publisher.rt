@@ -4,7 +4,7 @@ ghost use Rattle.std.specs.Prelude.{◌≡◌, ◌+◌, ◌^◌, ◌<◌, [], �
 ghost use mathlib.Core.List.{IsPrefix};
 ghost use Rattle.std.specs.Arc.{arc_value};
 ghost use Rattle.pcef_table.specs.Tables.{IsTable};
-ghost use Rattle.pcef_publish.specs.Lists.{IsRun, Ends};
+ghost use Rattle.pcef_publish.specs.Lists.{IsRun, EndsWith};
 
 use crate::front::{Author, Front, Opened};
 use crate::publication::Publication;

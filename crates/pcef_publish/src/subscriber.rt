@@ -4,7 +4,7 @@ ghost use Rattle.std.specs.Prelude.{◌≡◌, ◌+◌, IfSome, IfOk, OnErr, len
 ghost use mathlib.Core.List.{IsPrefix};
 ghost use Rattle.std.specs.Arc.{arc_value};
 ghost use Rattle.pcef_table.specs.Tables.{IsTable};
-ghost use Rattle.pcef_publish.specs.Lists.{Ends, IsSeen};
+ghost use Rattle.pcef_publish.specs.Lists.{EndsWith, IsSeen};
 
 use crate::publication::Publication;
 use crate::publisher::Publisher;
@@ -64,7 +64,7 @@ impl<N: Naming> Subscriber<N> {
     /// The generation that is held, and its table. Neither waits nor takes memory.
     pub fn current(&self) -> (u32, &Arc<Indexed>)
         ensures number { result.0 ≡ (arc_value result.1.now).number }
-        ensures last { Ends self.now (arc_value result.1.now) }
+        ensures last { EndsWith self.now (arc_value result.1.now) }
         ensures count { result.0 + 1 ≡ N.first + length self.now }
         ensures seen { IsSeen N.first self.now result.0 (arc_value result.1.now) }
         ensures table { IsTable N.setting.catalog (arc_value result.1.now).entries }

@@ -26,7 +26,7 @@ use Rattle.pcef_table.specs.declared.entry.Source.{Source}
 use Rattle.pcef_table.specs.declared.entry.Source.TheVariants.{Dynamic, Predefined}
 use Rattle.pcef_usage.specs.declared.usage.KeyState.{KeyState}
 use Rattle.pcef_session.specs.Agreement.{AreKept, KeyAgrees, KeysAgree}
-use Rattle.pcef_session.specs.Shown.{rule_of}
+use Rattle.pcef_session.specs.Shown.{entry_rule}
 use Rattle.pcef_renewal.specs.Renewal.{bearers_used, close_again, grant_after, is_any, keys_on, monitor_again, placed, placed_from, places, renewal, rule_again, rules_in_order, rules_on, rules_on_each, subscribe_again}
 use Rattle.pcef_renewal.specs.Renewing.{commands_needed}
 use Rattle.pcef_renewal.specs.private.Again.{again_on, again_on_each, closing, is_used, kept_again, monitor_of, monitors_of, subscription}
@@ -55,10 +55,10 @@ monitors_are p j states agree =
         ]
 
 -- ---- rules
-kept_is : (offers : List Offer) (e : List ℕ × Source) (r : Active) → e.0 ≡ r.properties.name → rule_of offers e.1 ≡ Some r → kept_again e ≡ rule_again r
+kept_is : (offers : List Offer) (e : List ℕ × Source) (r : Active) → e.0 ≡ r.properties.name → entry_rule offers e.1 ≡ Some r → kept_again e ≡ rule_again r
 kept_is offers e r named is = by_source e.0 e.1 named is
   where
-    by_source : (name : List ℕ) (source : Source) → name ≡ r.properties.name → rule_of offers source ≡ Some r → kept_again (name, source) ≡ rule_again r
+    by_source : (name : List ℕ) (source : Source) → name ≡ r.properties.name → entry_rule offers source ≡ Some r → kept_again (name, source) ≡ rule_again r
     by_source name (Dynamic rule) named is = let same : dynamic rule ≡ r = cc in ap rule_again same
     by_source name (Predefined index) named is = from (slice_get offers index) is
       where

@@ -8,10 +8,10 @@ use Rattle.pcef_line.specs.declared.fault.LineFault.{LineFault}
 use Rattle.pcef_line.specs.declared.fault.LineFault.TheVariants.{NoMemory}
 use Rattle.pcef_line.specs.declared.line.Line.{Line}
 use Rattle.pcef_script.specs.ScriptAnswers.{LineDue, answered}
-use Rattle.pcef_script.specs.ScriptLines.{is_blank}
+use Rattle.pcef_script.specs.ScriptLines.{is_blank_line}
 use Rattle.pcef_script.specs.Scripts.{all_lines}
 use Rattle.pcef_run.specs.Inputs.{IsRead}
-use Rattle.pcef_run.specs.Plans.{command_line}
+use Rattle.pcef_run.specs.Plans.{line_of_command}
 use Rattle.pcef_run.specs.declared.fault.PlanFault.{PlanFault}
 use Rattle.pcef_run.specs.declared.fault.PlanFault.TheVariants as fault
 use Rattle.pcef_run.specs.Reasons.{IsFaultAt, IsFor, SaysReason, untaken_by}
@@ -20,7 +20,7 @@ use Rattle.pcef_run.specs.declared.unfit.Unfit.TheVariants as unfit
 use Rattle.pcef_run.specs.declared.unfit.Untaken.{Untaken}
 use Rattle.pcef_run.specs.declared.unfit.Untaken.TheVariants as untaken
 use Rattle.pcef_run.proofs.PlanLines.{unread_for}
-use Rattle.pcef_run.specs.Orders.{AreOrdered, AreOrders, FailsIn, IsOrder, IsWrong, IsWrongFor, IsWrongLine, ReadsOrders, TakesLine, other_than_command, session_in}
+use Rattle.pcef_run.specs.Orders.{AreOrdered, AreOrders, FailsInOrders, IsOrder, IsWrong, IsWrongFor, IsWrongLine, ReadsOrders, TakesLine, other_than_command, session_in}
 use Rattle.pcef_run.specs.PoolRuns.{AreFor}
 use Rattle.pcef_run.specs.declared.order.Order.{Order}
 
@@ -42,7 +42,7 @@ unread_line sessions bytes rest n f is below (due, reads, inr same) =
     unread_for (IsWrong sessions bytes) f (inr (other_line sessions bytes rest n due (unfit.AtFault f) is below reads (ap other_than_command same)))
 
 -- of a line that isn't blank
-pub wrong_line : (sessions : ℕ) (bytes : List ℕ) (e : Untaken) → is_blank bytes ≡ false → IsFor (IsWrong sessions bytes) e → IsFor (IsWrongLine sessions bytes) e
+pub wrong_line : (sessions : ℕ) (bytes : List ℕ) (e : Untaken) → is_blank_line bytes ≡ false → IsFor (IsWrong sessions bytes) e → IsFor (IsWrongLine sessions bytes) e
 wrong_line sessions bytes (untaken.Unfit why) filled is = (filled, is)
 wrong_line sessions bytes untaken.NoMemory filled is = tt
 
@@ -56,25 +56,25 @@ orders_more sessions [] orders bytes o none is = (o, [], ap (λ t. t ++ o ∷ []
 orders_more sessions (b ∷ lines) orders bytes o (first, others, same, first_is, rest) is =
     (first, others ++ o ∷ [], ap (λ t. t ++ o ∷ []) same, first_is, orders_more sessions lines others bytes o rest is)
 
-filled_one : (test : Bool) (bytes : List ℕ) → is_blank bytes ≡ test → answered (bytes ∷ []) ≡ (if not test then bytes ∷ [] else [])
+filled_one : (test : Bool) (bytes : List ℕ) → is_blank_line bytes ≡ test → answered (bytes ∷ []) ≡ (if not test then bytes ∷ [] else [])
 filled_one test bytes is = rw is refl
 
 -- a blank line is passed over
-pub blank_taken : (sessions : ℕ) (lines : List (List ℕ)) (bytes : List ℕ) (orders : List Order) → is_blank bytes ≡ true → AreOrdered sessions lines orders → AreOrdered sessions (lines ++ bytes ∷ []) orders
+pub blank_taken : (sessions : ℕ) (lines : List (List ℕ)) (bytes : List ℕ) (orders : List Order) → is_blank_line bytes ≡ true → AreOrdered sessions lines orders → AreOrdered sessions (lines ++ bytes ∷ []) orders
 blank_taken sessions lines bytes orders blank are =
     let same : answered (lines ++ bytes ∷ []) ≡ answered lines =
-    filter-append (λ line. not (is_blank line)) lines (bytes ∷ []) ∙ ap (λ t. answered lines ++ t) (filled_one true bytes blank) ∙ append-nil (answered lines) in
+    filter-append (λ line. not (is_blank_line line)) lines (bytes ∷ []) ∙ ap (λ t. answered lines ++ t) (filled_one true bytes blank) ∙ append-nil (answered lines) in
     subst (λ ls. AreOrders sessions ls orders) (sym same) are
 
 -- and another one is an order
-pub order_taken : (sessions : ℕ) (lines : List (List ℕ)) (bytes : List ℕ) (orders : List Order) (o : Order) → is_blank bytes ≡ false → IsOrder sessions bytes o → AreOrdered sessions lines orders
+pub order_taken : (sessions : ℕ) (lines : List (List ℕ)) (bytes : List ℕ) (orders : List Order) (o : Order) → is_blank_line bytes ≡ false → IsOrder sessions bytes o → AreOrdered sessions lines orders
     → AreOrdered sessions (lines ++ bytes ∷ []) (orders ++ o ∷ [])
 order_taken sessions lines bytes orders o filled is are =
     let same : answered (lines ++ bytes ∷ []) ≡ answered lines ++ bytes ∷ [] =
-    filter-append (λ line. not (is_blank line)) lines (bytes ∷ []) ∙ ap (λ t. answered lines ++ t) (filled_one false bytes filled) in
+    filter-append (λ line. not (is_blank_line line)) lines (bytes ∷ []) ∙ ap (λ t. answered lines ++ t) (filled_one false bytes filled) in
     subst (λ ls. AreOrders sessions ls (orders ++ o ∷ [])) (sym same) (orders_more sessions (answered lines) orders bytes o are is)
 
-pub order_added : (r : Result (Unit {0}) Untaken) (sessions : ℕ) (bytes : List ℕ) (old new : List Order) (o : Order) → is_blank bytes ≡ false → IsOrder sessions bytes o → OnOk r (new ≡ old ++ o ∷ [])
+pub order_added : (r : Result (Unit {0}) Untaken) (sessions : ℕ) (bytes : List ℕ) (old new : List Order) (o : Order) → is_blank_line bytes ≡ false → IsOrder sessions bytes o → OnOk r (new ≡ old ++ o ∷ [])
     → OnOk r (TakesLine sessions bytes old new)
 order_added (Ok done) sessions bytes old new o filled is pushed = λ lines are. subst (AreOrdered sessions (lines ++ bytes ∷ [])) (sym pushed) (order_taken sessions lines bytes old o filled is are)
 order_added (Err e) sessions bytes old new o filled is pushed = tt
@@ -82,7 +82,7 @@ order_added (Err e) sessions bytes old new o filled is pushed = tt
 -- ---- inputs
 -- the first line that is no order
 pub fails_at : (sessions : ℕ) (lines front : List (List ℕ)) (bytes : List ℕ) (rest : List (List ℕ)) (before : List Order) (number : ℕ) (u : Untaken) (f : PlanFault) → lines ≡ front ++ bytes ∷ rest
-    → number ≡ length front + 1 → AreOrdered sessions front before → IsFor (IsWrongLine sessions bytes) u → IsFaultAt number u f → FailsIn sessions lines f
+    → number ≡ length front + 1 → AreOrdered sessions front before → IsFor (IsWrongLine sessions bytes) u → IsFaultAt number u f → FailsInOrders sessions lines f
 fails_at sessions lines front bytes rest before number (untaken.Unfit why) (fault.Line first) whole at ordered wrong (numbered, is, told) =
     (front, bytes, rest, before, whole, numbered ∙ at, ordered, subst (IsWrongLine sessions bytes) (sym is) wrong, subst (λ w. SaysReason w (string_bytes first.explanation)) (sym is) told)
 fails_at sessions lines front bytes rest before number (untaken.Unfit why) fault.Read whole at ordered wrong none = absurd none
@@ -94,7 +94,7 @@ fails_at sessions lines front bytes rest before number untaken.NoMemory fault.To
 fails_at sessions lines front bytes rest before number untaken.NoMemory fault.NoMemory whole at ordered wrong is = tt
 
 pub input_ordered : (sessions : ℕ) (r : Result (Vec Order Global) PlanFault) (input : List ℕ) (before left : Option (List ℕ)) → IsRead input before left
-    → IfOk r (λ v. AreOrdered sessions (all_lines input) v.items) → IfErr r (λ e. FailsIn sessions (all_lines input) e) → ReadsOrders sessions r before left
+    → IfOk r (λ v. AreOrdered sessions (all_lines input) v.items) → IfErr r (λ e. FailsInOrders sessions (all_lines input) e) → ReadsOrders sessions r before left
 input_ordered sessions (Ok orders) input before left read are fails = (input, read, are)
 input_ordered sessions (Err (fault.Line first)) input before left read are fails = (input, read, fails)
 input_ordered sessions (Err fault.NoMemory) input before left read are fails = (input, read.read, omega (arith, read.most))

@@ -9,7 +9,7 @@ use Rattle.pcef_line.specs.declared.line.Line.TheVariants as line
 use Rattle.pcef_gateway.specs.declared.arrivals.Arrival.{Arrival}
 use Rattle.pcef_script.specs.ScriptAnswers.{answered}
 use Rattle.pcef_script.specs.Scripts.{all_lines}
-use Rattle.pcef_run.specs.Plans.{AskFor, Plans, packet_in, packets_in, unfit_for}
+use Rattle.pcef_run.specs.Plans.{AskFor, Plans, arrival_in, packets_in, unfit_for}
 use Rattle.pcef_run.specs.declared.plan.Plan.{Plan}
 use Rattle.pcef_run.specs.declared.unfit.Unfit.{Unfit}
 use Rattle.pcef_run.specs.declared.unfit.Unfit.TheVariants.{NoWorker}
@@ -18,7 +18,7 @@ no_reason : (test : Bool) (why : Unfit) → (if test then None else Some why) �
 no_reason true why none = refl
 no_reason false why some = absurd (false≢true (sym (ap is_some some)))
 
-packet_known : (workers : ℕ) (l : Line) → unfit_for workers l ≡ None → All (λ (a : Arrival). a.worker < workers) (packet_in l)
+packet_known : (workers : ℕ) (l : Line) → unfit_for workers l ≡ None → All (λ (a : Arrival). a.worker < workers) (arrival_in l)
 packet_known workers (line.Step (step.Take w h)) fit =
     let Known : Arrival → Type 0 = λ a. a.worker < workers in
     All-cons Known (record { worker = w; header = h }) [] (ltb-true w workers (no_reason (nat_lt w workers) (NoWorker workers) fit)) (All-nil Known)
@@ -32,7 +32,7 @@ packets_known workers [] asked none =
 packets_known workers (bytes ∷ lines) asked (first, others, is, asks, rest) =
     let Known : Arrival → Type 0 = λ a. a.worker < workers in
     subst (λ ls. All Known (packets_in ls)) (sym is)
-    (All-append Known (packet_in first) (packets_in others) (packet_known workers first asks.1) (packets_known workers lines others rest))
+    (All-append Known (arrival_in first) (packets_in others) (packet_known workers first asks.1) (packets_known workers lines others rest))
 
 pub arrivals_known : (workers : ℕ) (plan : Plan) (before left : Option (List ℕ)) → Plans workers (Ok plan) before left → All (λ (a : Arrival). a.worker < workers) plan.arrivals.items
 arrivals_known workers plan before left (input, read, (asked, ask, is)) =

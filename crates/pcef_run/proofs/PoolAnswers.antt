@@ -1,4 +1,4 @@
--- Answers to orders, one after the other.
+-- AnswersEach to orders, one after the other.
 use Rattle.std.proofs.Common.{◌≡◌, ◌∙◌, ◌⊎◌, ◌<◌, ℕ, List, [], ◌∷◌, ◌++◌, All, length, refl, sym, ap, append-nil, append_assoc, subst, inl, inr}
 use Rattle.std.specs.Prelude.{IfErr, OnOk, Option, Some, Result, Ok, Err}
 use Rattle.std.specs.Io.KnownBytes.{Appends, Keeps}
@@ -7,14 +7,14 @@ use Rattle.pcef_rule.specs.declared.quantity.Sums.{Sums}
 use Rattle.pcef_script.specs.ScriptLines.{AppendsFront}
 use Rattle.pcef_pooled.specs.Granting.{PooledModel, granted_to}
 use Rattle.pcef_pooled.specs.Opening.{Asked}
-use Rattle.pcef_run.specs.PoolRuns.{Answers, AnswersAll, AnswersFirst, AnswersOrder, EndsOrders, OpenedOn, RunsPool, StopsAt, StopsIn, StopsText, WritesOrder, WritesOrders, granted_text}
+use Rattle.pcef_run.specs.PoolRuns.{AnswersEach, AnswersAll, AnswersFirst, AnswersOrder, EndsOrders, OpenedOn, RunsPool, StopsAtOrder, StopsInOrders, StopsText, WritesOrder, WritesOrders, granted_text}
 use Rattle.pcef_run.specs.declared.pool_end.PoolEnd.{PoolEnd}
 use Rattle.pcef_run.specs.declared.pool_end.PoolEnd.TheVariants as end
 use Rattle.pcef_run.specs.declared.order.Order.{Order}
 
 -- one order more
-pub answers_more : (before between after : PooledModel) (orders : List Order) (o : Order) (told line : List ℕ) → Answers before orders told between → AnswersOrder between o line after
-    → Answers before (orders ++ o ∷ []) (told ++ line) after
+pub answers_more : (before between after : PooledModel) (orders : List Order) (o : Order) (told line : List ℕ) → AnswersEach before orders told between → AnswersOrder between o line after
+    → AnswersEach before (orders ++ o ∷ []) (told ++ line) after
 answers_more before between after [] o told line (none, same) answered =
     (line, [], after, subst (λ p. AnswersOrder p o line after) same answered, (refl, refl), ap (λ t. t ++ line) none ∙ sym (append-nil line))
 answers_more before between after (p ∷ orders) o told line (first, rest, middle, first_is, others, is) answered =
@@ -35,7 +35,7 @@ kept_more : (a b c : Option (List ℕ)) (told : List ℕ) → Appends a b told �
 kept_more a b c told appended kept = Appends-kept a b c told appended kept
 
 pub stopped_at : (e : PoolEnd) (before between : PooledModel) (orders rest all : List Order) (o : Order) (a b c : Option (List ℕ)) → all ≡ orders ++ o ∷ rest → WritesOrders before orders between a b
-    → StopsAt e between o b c → StopsIn e before all a c
+    → StopsAtOrder e between o b c → StopsInOrders e before all a c
 stopped_at end.Write before between orders rest all o a b c whole (told, answers, appended) (line, after, answered, front) = (
   told ++ line,
   (orders ++ o ∷ [], rest, whole ∙ sym (append_assoc orders (o ∷ []) rest), after, answers_more before between after orders o told line answers answered),
@@ -46,7 +46,7 @@ stopped_at end.NoMemory before between orders rest all o a b c whole (told, answ
 stopped_at (end.Open fault) before between orders rest all o a b c whole written stops = absurd stops
 
 -- ---- the whole
-pub ended_early : (e : PoolEnd) (before : PooledModel) (orders : List Order) (a b : Option (List ℕ)) → StopsIn e before orders a b → EndsOrders before orders (Err e) a b
+pub ended_early : (e : PoolEnd) (before : PooledModel) (orders : List Order) (a b : Option (List ℕ)) → StopsInOrders e before orders a b → EndsOrders before orders (Err e) a b
 ended_early end.Write before orders a b (text, first, front) = (text, inl first, front)
 ended_early end.NoMemory before orders a b stops = stops
 ended_early (end.Open fault) before orders a b stops = absurd stops

@@ -6,7 +6,7 @@ use Rattle.pcef_model.specs.declared.step.Step.TheVariants as step
 use Rattle.pcef_line.specs.declared.line.Line.{Line}
 use Rattle.pcef_line.specs.declared.line.Line.TheVariants as line
 use Rattle.pcef_gateway.specs.declared.arrivals.Arrival.{Arrival}
-use Rattle.pcef_run.specs.Plans.{IsPlanOf, before_packets, command_in, command_line, commands_in, from_packets, is_packet, packet_in, packet_line, packets_in}
+use Rattle.pcef_run.specs.Plans.{IsPlanOf, before_packets, command_in, line_of_command, commands_in, from_packets, is_packet, arrival_in, packet_line, packets_in}
 use Rattle.pcef_run.specs.declared.plan.Plan.{Plan}
 
 pub commands_more : (a b : List Line) → commands_in (a ++ b) ≡ commands_in a ++ commands_in b
@@ -17,10 +17,10 @@ commands_more (l ∷ a) b = ap (λ t. command_in l ++ t) (commands_more a b) ∙
 pub packets_more : (a b : List Line) → packets_in (a ++ b) ≡ packets_in a ++ packets_in b
 unfolding packets_in
 packets_more [] b = refl
-packets_more (l ∷ a) b = ap (λ t. packet_in l ++ t) (packets_more a b) ∙ sym (append_assoc (packet_in l) (packets_in a) (packets_in b))
+packets_more (l ∷ a) b = ap (λ t. arrival_in l ++ t) (packets_more a b) ∙ sym (append_assoc (arrival_in l) (packets_in a) (packets_in b))
 
 -- ---- one line
-some_packet : (l : Line) → is_packet l ≡ true → (a : Arrival) × (packet_in l ≡ a ∷ [])
+some_packet : (l : Line) → is_packet l ≡ true → (a : Arrival) × (arrival_in l ≡ a ∷ [])
 some_packet (line.Step (step.Command c)) is = absurd (false≢true is)
 some_packet (line.Step step.Attach) is = absurd (false≢true is)
 some_packet (line.Step (step.Take w h)) is = (record { worker = w; header = h }, refl)
@@ -30,7 +30,7 @@ some_packet (line.Step (step.Finish w)) is = absurd (false≢true is)
 some_packet (line.Step (step.Abandon w)) is = absurd (false≢true is)
 some_packet line.Show is = absurd (false≢true is)
 
-no_packet : (l : Line) → is_packet l ≡ false → packet_in l ≡ []
+no_packet : (l : Line) → is_packet l ≡ false → arrival_in l ≡ []
 no_packet (line.Step (step.Command c)) is = refl
 no_packet (line.Step step.Attach) is = refl
 no_packet (line.Step (step.Take w h)) is = absurd (false≢true (sym is))
@@ -55,7 +55,7 @@ all_before [] none = refl
 all_before (l ∷ asked) none = by_test (is_packet l) refl (all_before asked)
   where
     by_test : (test : Bool) → is_packet l ≡ test → (packets_in asked ≡ [] → before_packets asked ≡ asked) → before_packets (l ∷ asked) ≡ l ∷ asked
-    by_test true is so_far = let some = some_packet l is in absurd (not_none some.0 (packet_in l) (packets_in asked) some.1 none)
+    by_test true is so_far = let some = some_packet l is in absurd (not_none some.0 (arrival_in l) (packets_in asked) some.1 none)
     by_test false is so_far =
         let others : packets_in asked ≡ [] = sym (ap (λ t. t ++ packets_in asked) (no_packet l is)) ∙ none in
         rw is (ap (λ t. l ∷ t) (so_far others))
@@ -66,7 +66,7 @@ none_from [] none = refl
 none_from (l ∷ asked) none = by_test (is_packet l) refl (none_from asked)
   where
     by_test : (test : Bool) → is_packet l ≡ test → (packets_in asked ≡ [] → from_packets asked ≡ []) → from_packets (l ∷ asked) ≡ []
-    by_test true is so_far = let some = some_packet l is in absurd (not_none some.0 (packet_in l) (packets_in asked) some.1 none)
+    by_test true is so_far = let some = some_packet l is in absurd (not_none some.0 (arrival_in l) (packets_in asked) some.1 none)
     by_test false is so_far =
         let others : packets_in asked ≡ [] = sym (ap (λ t. t ++ packets_in asked) (no_packet l is)) ∙ none in
         rw is (so_far others)
@@ -78,7 +78,7 @@ before_first [] a none = refl
 before_first (l ∷ asked) a none = by_test (is_packet l) refl (before_first asked a)
   where
     by_test : (test : Bool) → is_packet l ≡ test → (packets_in asked ≡ [] → before_packets (asked ++ packet_line a ∷ []) ≡ asked) → before_packets (l ∷ (asked ++ packet_line a ∷ [])) ≡ l ∷ asked
-    by_test true is so_far = let some = some_packet l is in absurd (not_none some.0 (packet_in l) (packets_in asked) some.1 none)
+    by_test true is so_far = let some = some_packet l is in absurd (not_none some.0 (arrival_in l) (packets_in asked) some.1 none)
     by_test false is so_far =
         let others : packets_in asked ≡ [] = sym (ap (λ t. t ++ packets_in asked) (no_packet l is)) ∙ none in
         rw is (ap (λ t. l ∷ t) (so_far others))
@@ -90,7 +90,7 @@ from_first (l ∷ asked) a none = by_test (is_packet l) refl (from_first asked a
   where
     by_test : (test : Bool) → is_packet l ≡ test → (packets_in asked ≡ [] → from_packets (asked ++ packet_line a ∷ []) ≡ packet_line a ∷ [])
         → from_packets (l ∷ (asked ++ packet_line a ∷ [])) ≡ packet_line a ∷ []
-    by_test true is so_far = let some = some_packet l is in absurd (not_none some.0 (packet_in l) (packets_in asked) some.1 none)
+    by_test true is so_far = let some = some_packet l is in absurd (not_none some.0 (arrival_in l) (packets_in asked) some.1 none)
     by_test false is so_far =
         let others : packets_in asked ≡ [] = sym (ap (λ t. t ++ packets_in asked) (no_packet l is)) ∙ none in
         rw is (so_far others)
@@ -124,7 +124,7 @@ from_later (l ∷ asked) more a bs some = by_test (is_packet l) refl (from_later
         rw is (so_far others)
 
 -- ---- plans
-one_command : (c : Command) → commands_in (command_line c ∷ []) ≡ c ∷ []
+one_command : (c : Command) → commands_in (line_of_command c ∷ []) ≡ c ∷ []
 unfolding commands_in
 one_command c = refl
 
@@ -136,7 +136,7 @@ one_packet : (a : Arrival) → packets_in (packet_line a ∷ []) ≡ a ∷ []
 unfolding packets_in
 one_packet a = refl
 
-none_of_command : (c : Command) → packets_in (command_line c ∷ []) ≡ []
+none_of_command : (c : Command) → packets_in (line_of_command c ∷ []) ≡ []
 unfolding packets_in
 none_of_command c = refl
 
@@ -149,42 +149,42 @@ pub nothing : (plan : Plan) → plan.first.items ≡ [] → plan.arrivals.items 
 unfolding commands_in packets_in before_packets from_packets
 nothing plan first arrivals later = record { first = first; arrivals = arrivals; later = later }
 
-same_packets : (asked : List Line) (c : Command) → packets_in (asked ++ command_line c ∷ []) ≡ packets_in asked
-same_packets asked c = packets_more asked (command_line c ∷ []) ∙ ap (λ t. packets_in asked ++ t) (none_of_command c) ∙ append-nil (packets_in asked)
+same_packets : (asked : List Line) (c : Command) → packets_in (asked ++ line_of_command c ∷ []) ≡ packets_in asked
+same_packets asked c = packets_more asked (line_of_command c ∷ []) ∙ ap (λ t. packets_in asked ++ t) (none_of_command c) ∙ append-nil (packets_in asked)
 
-more_commands : (lines : List Line) (c : Command) → commands_in (lines ++ command_line c ∷ []) ≡ commands_in lines ++ c ∷ []
-more_commands lines c = commands_more lines (command_line c ∷ []) ∙ ap (λ t. commands_in lines ++ t) (one_command c)
+more_commands : (lines : List Line) (c : Command) → commands_in (lines ++ line_of_command c ∷ []) ≡ commands_in lines ++ c ∷ []
+more_commands lines c = commands_more lines (line_of_command c ∷ []) ∙ ap (λ t. commands_in lines ++ t) (one_command c)
 
 -- a command before the first packet
 pub first_command : (asked : List Line) (plan new : Plan) (c : Command) → plan.arrivals.items ≡ [] → new.first.items ≡ plan.first.items ++ c ∷ [] → new.arrivals.items ≡ plan.arrivals.items
-    → new.later.items ≡ plan.later.items → IsPlanOf asked plan → IsPlanOf (asked ++ command_line c ∷ []) new
+    → new.later.items ≡ plan.later.items → IsPlanOf asked plan → IsPlanOf (asked ++ line_of_command c ∷ []) new
 first_command asked plan new c empty first arrivals later is =
     let none : packets_in asked ≡ [] = sym is.arrivals ∙ empty in
-    let still : packets_in (asked ++ command_line c ∷ []) ≡ [] = same_packets asked c ∙ none in
+    let still : packets_in (asked ++ line_of_command c ∷ []) ≡ [] = same_packets asked c ∙ none in
     record {
       first = first ∙ ap (λ t. t ++ c ∷ []) (is.first ∙ ap commands_in (all_before asked none))
-          ∙ sym (more_commands asked c) ∙ ap commands_in (sym (all_before (asked ++ command_line c ∷ []) still));
+          ∙ sym (more_commands asked c) ∙ ap commands_in (sym (all_before (asked ++ line_of_command c ∷ []) still));
       arrivals = arrivals ∙ is.arrivals ∙ sym (same_packets asked c);
-      later = later ∙ is.later ∙ ap commands_in (none_from asked none ∙ sym (none_from (asked ++ command_line c ∷ []) still));
+      later = later ∙ is.later ∙ ap commands_in (none_from asked none ∙ sym (none_from (asked ++ line_of_command c ∷ []) still));
     }
 
 -- and one after it
 pub later_command : (asked : List Line) (plan new : Plan) (c : Command) (a : Arrival) (bs : List Arrival) → plan.arrivals.items ≡ a ∷ bs → new.first.items ≡ plan.first.items
-    → new.arrivals.items ≡ plan.arrivals.items → new.later.items ≡ plan.later.items ++ c ∷ [] → IsPlanOf asked plan → IsPlanOf (asked ++ command_line c ∷ []) new
+    → new.arrivals.items ≡ plan.arrivals.items → new.later.items ≡ plan.later.items ++ c ∷ [] → IsPlanOf asked plan → IsPlanOf (asked ++ line_of_command c ∷ []) new
 later_command asked plan new c a bs some first arrivals later is =
     let there : packets_in asked ≡ a ∷ bs = sym is.arrivals ∙ some in
     record {
-      first = first ∙ is.first ∙ ap commands_in (sym (before_later asked (command_line c ∷ []) a bs there));
+      first = first ∙ is.first ∙ ap commands_in (sym (before_later asked (line_of_command c ∷ []) a bs there));
       arrivals = arrivals ∙ is.arrivals ∙ sym (same_packets asked c);
-      later = later ∙ ap (λ t. t ++ c ∷ []) is.later ∙ sym (more_commands (from_packets asked) c) ∙ ap commands_in (sym (from_later asked (command_line c ∷ []) a bs there));
+      later = later ∙ ap (λ t. t ++ c ∷ []) is.later ∙ sym (more_commands (from_packets asked) c) ∙ ap commands_in (sym (from_later asked (line_of_command c ∷ []) a bs there));
     }
 
 -- the same, by a test of what is there
 pub filled_command : (asked : List Line) (plan new : Plan) (c : Command) → (length plan.arrivals.items == 0) ≡ false → new.first.items ≡ plan.first.items → new.arrivals.items ≡ plan.arrivals.items
-    → new.later.items ≡ plan.later.items ++ c ∷ [] → IsPlanOf asked plan → IsPlanOf (asked ++ command_line c ∷ []) new
+    → new.later.items ≡ plan.later.items ++ c ∷ [] → IsPlanOf asked plan → IsPlanOf (asked ++ line_of_command c ∷ []) new
 filled_command asked plan new c filled first arrivals later is = by_list plan.arrivals.items refl filled
   where
-    by_list : (there : List Arrival) → plan.arrivals.items ≡ there → (length there == 0) ≡ false → IsPlanOf (asked ++ command_line c ∷ []) new
+    by_list : (there : List Arrival) → plan.arrivals.items ≡ there → (length there == 0) ≡ false → IsPlanOf (asked ++ line_of_command c ∷ []) new
     by_list [] same none = absurd (false≢true (sym none))
     by_list (a ∷ bs) same some = later_command asked plan new c a bs same first arrivals later is
 

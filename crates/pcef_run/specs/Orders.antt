@@ -6,10 +6,10 @@ use Rattle.pcef_line.specs.declared.fault.LineFault.{LineFault}
 use Rattle.pcef_line.specs.declared.line.Line.{Line}
 use Rattle.pcef_line.specs.declared.line.Line.TheVariants as line
 use Rattle.pcef_script.specs.ScriptAnswers.{LineDue, answered}
-use Rattle.pcef_script.specs.ScriptLines.{is_blank}
+use Rattle.pcef_script.specs.ScriptLines.{is_blank_line}
 use Rattle.pcef_script.specs.Scripts.{all_lines}
 use Rattle.pcef_run.specs.Inputs.{IsRead, IsUnread}
-use Rattle.pcef_run.specs.Plans.{command_line}
+use Rattle.pcef_run.specs.Plans.{line_of_command}
 use Rattle.pcef_run.specs.Reasons.{SaysReason}
 use Rattle.pcef_run.specs.declared.fault.PlanFault.{PlanFault}
 use Rattle.pcef_run.specs.declared.fault.PlanFault.TheVariants as fault
@@ -38,7 +38,7 @@ session_in (first ∷ second ∷ rest) =
 -- a line is an order for one of `sessions` sessions: its number, and a line of a script that is a command
 abbrev pub IsOrder : ℕ → List ℕ → Order → Type 0
 IsOrder sessions bytes o =
-    (rest : List ℕ) × (session_in bytes ≡ Some (o.session, rest)) × (o.session < sessions) × LineDue rest (Ok (command_line o.command))
+    (rest : List ℕ) × (session_in bytes ≡ Some (o.session, rest)) × (o.session < sessions) × LineDue rest (Ok (line_of_command o.command))
 
 -- A line that is none, by its reason: it isn't of this form, there is no such session, or what follows is at fault or no
 -- command.
@@ -70,7 +70,7 @@ AreOrdered sessions lines orders = AreOrders sessions (answered lines) orders
 
 -- the first line among these that is neither blank nor an order, by its number, with its reason
 abbrev pub IsWrongLine : ℕ → List ℕ → Unfit → Type 0
-IsWrongLine sessions bytes why = (is_blank bytes ≡ false) × IsWrong sessions bytes why
+IsWrongLine sessions bytes why = (is_blank_line bytes ≡ false) × IsWrong sessions bytes why
 
 abbrev pub IsFirstWrong : ℕ → List (List ℕ) → FirstUnfit → Type 0
 IsFirstWrong sessions lines first =
@@ -86,10 +86,10 @@ ReadsOrders sessions (Err (fault.Line first)) before left = (input : List ℕ) �
 ReadsOrders sessions (Err other) before left = IsUnread other before left
 
 -- ---- for private clauses
-abbrev pub FailsIn : ℕ → List (List ℕ) → PlanFault → Type 0
-FailsIn sessions lines (fault.Line first) = IsFirstWrong sessions lines first
-FailsIn sessions lines fault.NoMemory = Unit {0}
-FailsIn sessions lines other = ⊥
+abbrev pub FailsInOrders : ℕ → List (List ℕ) → PlanFault → Type 0
+FailsInOrders sessions lines (fault.Line first) = IsFirstWrong sessions lines first
+FailsInOrders sessions lines fault.NoMemory = Unit {0}
+FailsInOrders sessions lines other = ⊥
 
 -- the bytes of a line more, whatever lines the orders before are
 abbrev pub TakesLine : ℕ → List ℕ → List Order → List Order → Type 0

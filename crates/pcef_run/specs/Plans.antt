@@ -7,7 +7,7 @@ use Rattle.pcef_line.specs.declared.line.Line.{Line}
 use Rattle.pcef_line.specs.declared.line.Line.TheVariants as line
 use Rattle.pcef_gateway.specs.declared.arrivals.Arrival.{Arrival}
 use Rattle.pcef_script.specs.ScriptAnswers.{LineDue, answered}
-use Rattle.pcef_script.specs.ScriptLines.{is_blank}
+use Rattle.pcef_script.specs.ScriptLines.{is_blank_line}
 use Rattle.pcef_script.specs.Scripts.{all_lines}
 use Rattle.pcef_run.specs.declared.fault.PlanFault.{PlanFault}
 use Rattle.pcef_run.specs.declared.fault.PlanFault.TheVariants as fault
@@ -19,8 +19,8 @@ use Rattle.pcef_run.specs.Inputs.{IsRead, IsUnread}
 use Rattle.pcef_run.specs.Reasons.{SaysReason}
 
 -- ---- lines
-abbrev pub command_line : Command → Line
-command_line c = line.Step (step.Command c)
+abbrev pub line_of_command : Command → Line
+line_of_command c = line.Step (step.Command c)
 
 abbrev pub packet_line : Arrival → Line
 packet_line a = line.Step (step.Take a.worker a.header)
@@ -30,9 +30,9 @@ abbrev pub command_in : Line → List Command
 command_in (line.Step (step.Command c)) = c ∷ []
 command_in other = []
 
-abbrev pub packet_in : Line → List Arrival
-packet_in (line.Step (step.Take w h)) = record { worker = w; header = h } ∷ []
-packet_in other = []
+abbrev pub arrival_in : Line → List Arrival
+arrival_in (line.Step (step.Take w h)) = record { worker = w; header = h } ∷ []
+arrival_in other = []
 
 abbrev pub is_packet : Line → Bool
 is_packet (line.Step (step.Take w h)) = true
@@ -51,7 +51,7 @@ commands_in (first ∷ lines) = command_in first ++ commands_in lines
 
 unfoldable pub packets_in : List Line → List Arrival
 packets_in [] = []
-packets_in (first ∷ lines) = packet_in first ++ packets_in lines
+packets_in (first ∷ lines) = arrival_in first ++ packets_in lines
 
 -- the lines before the first packet, and those from it on
 unfoldable pub before_packets : List Line → List Line
@@ -69,13 +69,13 @@ pub record IsPlanOf (asked : List Line) (plan : Plan) : Type 0 where
 
 -- ---- inputs
 -- a line that is read and fits
-abbrev pub Asks : ℕ → List ℕ → Line → Type 0
-Asks workers bytes asked = LineDue bytes (Ok asked) × (unfit_for workers asked ≡ None)
+abbrev pub LineAsks : ℕ → List ℕ → Line → Type 0
+LineAsks workers bytes asked = LineDue bytes (Ok asked) × (unfit_for workers asked ≡ None)
 
 abbrev pub AskFor : ℕ → List (List ℕ) → List Line → Type 0
 AskFor workers [] asked = asked ≡ []
 AskFor workers (bytes ∷ rest) asked =
-    (first : Line) × (others : List Line) × (asked ≡ first ∷ others) × Asks workers bytes first × AskFor workers rest others
+    (first : Line) × (others : List Line) × (asked ≡ first ∷ others) × LineAsks workers bytes first × AskFor workers rest others
 
 -- what these lines ask for, blank ones aside
 abbrev pub ArePlanned : ℕ → List (List ℕ) → Plan → Type 0
@@ -88,7 +88,7 @@ unfit_if_read workers (Err fault) = Some (unfit.AtFault fault)
 
 abbrev pub IsUnfit : ℕ → List ℕ → Unfit → Type 0
 IsUnfit workers bytes why =
-    (is_blank bytes ≡ false) × (due : Result Line LineFault) × LineDue bytes due × (unfit_if_read workers due ≡ Some why)
+    (is_blank_line bytes ≡ false) × (due : Result Line LineFault) × LineDue bytes due × (unfit_if_read workers due ≡ Some why)
 
 -- the first such line among these, by its number, with its reason
 abbrev pub IsFirstUnfit : ℕ → List (List ℕ) → FirstUnfit → Type 0

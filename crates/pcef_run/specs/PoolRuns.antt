@@ -33,15 +33,15 @@ pub record AnswersOrder (before : PooledModel) (o : Order) (text : List ℕ) (af
 
 -- ---- orders
 -- the lines for the answers to orders that are given one after the other
-abbrev pub Answers : PooledModel → List Order → List ℕ → PooledModel → Type 0
-Answers before [] text after = (text ≡ []) × (after ≡ before)
-Answers before (o ∷ orders) text after =
-    (first rest : List ℕ) × (between : PooledModel) × AnswersOrder before o first between × Answers between orders rest after × (text ≡ first ++ rest)
+abbrev pub AnswersEach : PooledModel → List Order → List ℕ → PooledModel → Type 0
+AnswersEach before [] text after = (text ≡ []) × (after ≡ before)
+AnswersEach before (o ∷ orders) text after =
+    (first rest : List ℕ) × (between : PooledModel) × AnswersOrder before o first between × AnswersEach between orders rest after × (text ≡ first ++ rest)
 
 -- those to the first of them
 abbrev pub AnswersFirst : PooledModel → List Order → List ℕ → Type 0
 AnswersFirst before orders text =
-    (first rest : List Order) × (orders ≡ first ++ rest) × (after : PooledModel) × Answers before first text after
+    (first rest : List Order) × (orders ≡ first ++ rest) × (after : PooledModel) × AnswersEach before first text after
 
 -- the last line: what the pool has granted, in bit/s
 abbrev pub granted_text : Sums → List ℕ
@@ -50,7 +50,7 @@ granted_text s = codes "granted up " ++ (decimal s.up ++ (codes " down " ++ (dec
 -- the lines to all orders, and the last line
 abbrev pub AnswersAll : PooledModel → List Order → List ℕ → Type 0
 AnswersAll before orders text =
-    (lines : List ℕ) × (after : PooledModel) × Answers before orders lines after × (text ≡ lines ++ granted_text (granted_to after.sessions))
+    (lines : List ℕ) × (after : PooledModel) × AnswersEach before orders lines after × (text ≡ lines ++ granted_text (granted_to after.sessions))
 
 -- What is written: all that; where the writer fails, a front of it, up to the line that failed; and where memory runs
 -- out, the lines before that.
@@ -84,18 +84,18 @@ AreFor sessions orders = All (λ (o : Order). o.session < sessions) orders
 abbrev pub WritesOrder : PooledModel → Order → PooledModel → Option (List ℕ) → Option (List ℕ) → Type 0
 WritesOrder before o after old new = (text : List ℕ) × AnswersOrder before o text after × Appends old new text
 
-abbrev pub StopsAt : PoolEnd → PooledModel → Order → Option (List ℕ) → Option (List ℕ) → Type 0
-StopsAt end.Write before o old new = (text : List ℕ) × (after : PooledModel) × AnswersOrder before o text after × AppendsFront old new text
-StopsAt end.NoMemory before o old new = Keeps old new
-StopsAt (end.Open fault) before o old new = ⊥
+abbrev pub StopsAtOrder : PoolEnd → PooledModel → Order → Option (List ℕ) → Option (List ℕ) → Type 0
+StopsAtOrder end.Write before o old new = (text : List ℕ) × (after : PooledModel) × AnswersOrder before o text after × AppendsFront old new text
+StopsAtOrder end.NoMemory before o old new = Keeps old new
+StopsAtOrder (end.Open fault) before o old new = ⊥
 
 abbrev pub WritesOrders : PooledModel → List Order → PooledModel → Option (List ℕ) → Option (List ℕ) → Type 0
-WritesOrders before orders after old new = (text : List ℕ) × Answers before orders text after × Appends old new text
+WritesOrders before orders after old new = (text : List ℕ) × AnswersEach before orders text after × Appends old new text
 
-abbrev pub StopsIn : PoolEnd → PooledModel → List Order → Option (List ℕ) → Option (List ℕ) → Type 0
-StopsIn end.Write before orders old new = (text : List ℕ) × AnswersFirst before orders text × AppendsFront old new text
-StopsIn end.NoMemory before orders old new = (text : List ℕ) × AnswersFirst before orders text × Appends old new text
-StopsIn (end.Open fault) before orders old new = ⊥
+abbrev pub StopsInOrders : PoolEnd → PooledModel → List Order → Option (List ℕ) → Option (List ℕ) → Type 0
+StopsInOrders end.Write before orders old new = (text : List ℕ) × AnswersFirst before orders text × AppendsFront old new text
+StopsInOrders end.NoMemory before orders old new = (text : List ℕ) × AnswersFirst before orders text × Appends old new text
+StopsInOrders (end.Open fault) before orders old new = ⊥
 
 abbrev pub StopsText : PoolEnd → List ℕ → Option (List ℕ) → Option (List ℕ) → Type 0
 StopsText end.Write text old new = AppendsFront old new text

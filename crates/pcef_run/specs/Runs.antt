@@ -31,8 +31,8 @@ is_accepted (Ok a) = true
 is_accepted (Err r) = false
 
 -- of all commands: those before the first packet, and those of the run
-abbrev pub commands_of : Ran → ℕ
-commands_of ran = length ran.answers.items + length ran.ended.answers.items
+abbrev pub command_count : Ran → ℕ
+command_count ran = length ran.answers.items + length ran.ended.answers.items
 
 abbrev pub accepted_of : Ran → ℕ
 accepted_of ran = count_by is_accepted ran.answers.items + count_by is_accepted ran.ended.answers.items
@@ -64,9 +64,9 @@ OpensNot p (run.Run fault) = ⊥
 OpensNot p run.NoMemory = Unit {0}
 
 -- the end for a fault: out of memory has its own
-abbrev pub end_of : RunFault → RunEnd
-end_of fault.NoMemory = run.NoMemory
-end_of other = run.Run other
+abbrev pub end_for_fault : RunFault → RunEnd
+end_for_fault fault.NoMemory = run.NoMemory
+end_for_fault other = run.Run other
 
 -- a session was given commands, one after the other, and answered them so
 abbrev pub ObeyedBy : SessionModel → List Command → List (Result Accepted Refusal) → SessionModel → Type 0

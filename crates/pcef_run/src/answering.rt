@@ -2,7 +2,7 @@
 
 ghost use Rattle.std.specs.Prelude.{◌≡◌, ◌<◌, All, IfErr, IfOk, OnOk, length, string_bytes};
 ghost use Rattle.std.specs.Io.KnownBytes.{Appends};
-ghost use Rattle.pcef_run.specs.PoolRuns.{AnswersOrder, AreFor, EndsOrders, StopsAt, StopsIn, StopsText, WritesOrder, WritesOrders, granted_text};
+ghost use Rattle.pcef_run.specs.PoolRuns.{AnswersOrder, AreFor, EndsOrders, StopsAtOrder, StopsInOrders, StopsText, WritesOrder, WritesOrders, granted_text};
 
 use crate::order::Order;
 use crate::pool_end::PoolEnd;
@@ -48,7 +48,7 @@ fn do_order<P: Pooling, W: Write>(
     requires { order.session < length pooled.old.sessions }
     ensures all { OnOk result (WritesOrder pooled.old order pooled.new
         (W.contents writer.old) (W.contents writer.new)) }
-    ensures front { IfErr result (λ e. StopsAt e pooled.old order
+    ensures front { IfErr result (λ e. StopsAtOrder e pooled.old order
         (W.contents writer.old) (W.contents writer.new)) }
     ensures many { length pooled.new.sessions ≡ length pooled.old.sessions }
 {
@@ -71,7 +71,7 @@ fn do_orders<P: Pooling, W: Write>(
     requires { AreFor (length pooled.old.sessions) orders.items }
     ensures all { OnOk result (WritesOrders pooled.old orders.items pooled.new
         (W.contents writer.old) (W.contents writer.new)) }
-    ensures front { IfErr result (λ e. StopsIn e pooled.old orders.items
+    ensures front { IfErr result (λ e. StopsInOrders e pooled.old orders.items
         (W.contents writer.old) (W.contents writer.new)) }
 {
     for order in orders {

@@ -2,7 +2,7 @@
 
 ghost use Rattle.std.specs.Prelude.{IfErr, IfOk};
 ghost use Rattle.pcef_script.specs.Scripts.{all_lines};
-ghost use Rattle.pcef_run.specs.Orders.{AreOrdered, FailsIn, ReadsOrders};
+ghost use Rattle.pcef_run.specs.Orders.{AreOrdered, FailsInOrders, ReadsOrders};
 
 use crate::fault::PlanFault;
 use crate::input::read_all;
@@ -15,7 +15,7 @@ use std::io::Read;
 /// The orders on the lines of an input.
 fn orders_of(alloc: Global, input: &[u8], sessions: usize) -> Result<Vec<Order>, PlanFault>
     ensures orders { IfOk result (λ v. AreOrdered sessions (all_lines input.now) v.items) }
-    ensures fault { IfErr result (λ e. FailsIn sessions (all_lines input.now) e) }
+    ensures fault { IfErr result (λ e. FailsInOrders sessions (all_lines input.now) e) }
 {
     let mut orders = Vec::new(alloc);
     let mut reader = LineReader::new(alloc);

@@ -1,7 +1,7 @@
 //! What an input asks of a run.
 
 ghost use Rattle.std.specs.Prelude.{◌≡◌, [], IfErr, None, OnOk, Some};
-ghost use Rattle.pcef_run.specs.Plans.{AddsLine, IsPlanOf, command_line, packet_line, unfit_for};
+ghost use Rattle.pcef_run.specs.Plans.{AddsLine, IsPlanOf, line_of_command, packet_line, unfit_for};
 ghost use Rattle.pcef_run.specs.Reasons.{IsFor};
 
 use crate::unfit::{Unfit, Untaken};
@@ -35,7 +35,7 @@ impl Plan {
     }
 
     fn add_command(&mut self, command: Command) -> Result<(), AllocError>
-        ensures { AddsLine (command_line command) self.old result self.new }
+        ensures { AddsLine (line_of_command command) self.old result self.new }
     {
         if self.arrivals.is_empty() {
             self.first.push(command)?;

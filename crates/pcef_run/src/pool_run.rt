@@ -1,7 +1,7 @@
 //! Runs sessions on a pool.
 
 ghost use Rattle.std.specs.Prelude.{◌≡◌, length};
-ghost use Rattle.pcef_share.specs.Names.{name_at};
+ghost use Rattle.pcef_share.specs.Names.{ledger_at};
 ghost use Rattle.pcef_run.specs.PoolRuns.{AreFor, RunsPool};
 
 use crate::answering::answer_orders;
@@ -25,7 +25,7 @@ fn run_named<P: Pooling, W: Write>(
     orders: Vec<Order>,
     writer: &mut W,
 ) -> Result<(), PoolEnd>
-    requires name { P.ledger ≡ name_at blanks }
+    requires name { P.ledger ≡ ledger_at blanks }
     requires capacity { P.capacity ≡ capacity }
     requires known { AreFor (length profiles.items) orders.items }
     ensures { RunsPool capacity profiles.items orders.items result

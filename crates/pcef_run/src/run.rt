@@ -7,7 +7,7 @@ ghost use Rattle.pcef_model.specs.ProfileModel.{setting_of};
 ghost use Rattle.pcef_gateway.specs.declared.fault.RunFault.TheVariants.{NoMemory as WantOfMemory};
 ghost use Rattle.pcef_session.specs.Answers.{IsOpened};
 ghost use Rattle.pcef_run.specs.declared.plan.Plan.{Plan};
-ghost use Rattle.pcef_run.specs.Runs.{EndsPlan, FailsRun, OpensNot, RunsPlan, accepted_of, commands_of, end_of};
+ghost use Rattle.pcef_run.specs.Runs.{EndsPlan, FailsRun, OpensNot, RunsPlan, accepted_of, command_count, end_for_fault};
 
 use crate::fault::RunEnd;
 use crate::obeying::{accepted_among, obey};
@@ -40,7 +40,7 @@ impl Ran {
 
     /// How many commands there were.
     pub fn commands(&self) -> u64
-        ensures { result ≡ commands_of self.now }
+        ensures { result ≡ command_count self.now }
     {
         self.answers.len() as u64 + self.ended.answers.len() as u64
     }
@@ -62,7 +62,7 @@ fn open<C: Offers>(alloc: Global, profile: Profile, catalog: &C) -> Result<Journ
 }
 
 fn run_fault(fault: RunFault) -> RunEnd
-    ensures exact { result ≡ end_of fault }
+    ensures exact { result ≡ end_for_fault fault }
     ensures ends { (p : Setting) (plan : Plan) (n : ℕ) → (fault ≢ WantOfMemory → FailsRun plan n fault)
         → EndsPlan p plan n result }
 {

@@ -1,7 +1,7 @@
 //! What is said of a run.
 
 ghost use Rattle.std.specs.Prelude.{◌≡◌, ◌++◌, IfOk, OnOk, decimal, string_bytes};
-ghost use Rattle.pcef_run.specs.Summaries.{summary_text, with_commands, with_key, with_keys, with_number, with_reports, with_rows};
+ghost use Rattle.pcef_run.specs.Summaries.{summary_text, with_commands, with_key, with_keys, with_number, and_reports, and_rows};
 
 use crate::run::Ran;
 use crate::taken::Counts;
@@ -18,7 +18,7 @@ fn push_number(text: &mut String, word: &str, number: u64) -> Result<(), AllocEr
 }
 
 fn push_rows(text: &mut String, ran: &Ran) -> Result<(), AllocError>
-    ensures { OnOk result (string_bytes text.new ≡ with_rows (string_bytes text.old) ran.now) }
+    ensures { OnOk result (string_bytes text.new ≡ and_rows (string_bytes text.old) ran.now) }
 {
     push_number(text, "rows ", ran.ended.totals.rows)?;
     push_number(text, " abandoned ", ran.ended.totals.abandoned)?;
@@ -36,7 +36,7 @@ fn push_commands(text: &mut String, ran: &Ran) -> Result<(), AllocError>
 }
 
 fn push_reports(text: &mut String, taken: Counts) -> Result<(), AllocError>
-    ensures { OnOk result (string_bytes text.new ≡ with_reports (string_bytes text.old) taken) }
+    ensures { OnOk result (string_bytes text.new ≡ and_reports (string_bytes text.old) taken) }
 {
     push_number(text, "reports usage ", taken.usage)?;
     push_number(text, " access ", taken.access)?;

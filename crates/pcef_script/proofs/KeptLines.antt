@@ -5,9 +5,9 @@ use Rattle.std.specs.List.{list_all}
 use Rattle.std.proofs.lemmas.Bool.{false≢true}
 use Rattle.std.proofs.lemmas.Bool.Decides.{nat_tests}
 use Rattle.std.proofs.lemmas.List.{length-append, length-take, take_all, take-append-le}
-use Rattle.pcef_script.specs.ScriptLines.{Kept, IsKept, kept_of, line_most, is_blank, is_too_long, is_space, within_limit}
+use Rattle.pcef_script.specs.ScriptLines.{KeptLine, IsKept, kept_of, line_most, is_blank_line, is_too_long, is_space, within_limit}
 
-abbrev pub kept_at_read : List ℕ → Bool → ℕ → Kept
+abbrev pub kept_at_read : List ℕ → Bool → ℕ → KeptLine
 kept_at_read bytes flag n = record { bytes = bytes; is_too_long = flag; read = n }
 
 below : (most n : ℕ) → n ≤ most → nat_lt most n ≡ false
@@ -63,7 +63,7 @@ no_more bytes line flag b kept le =
     let longer : line_most < length (line ++ b ∷ []) = omega (arith, long, length-append line (b ∷ [])) in
     (kept.0 ∙ sym (take-append-le line_most line (b ∷ []) long), sym (above line_most (length (line ++ b ∷ [])) longer))
 
-pub kept_is : (k : Kept) (line : List ℕ) (n : ℕ) → k ≡ kept_of line n → IsKept k.bytes k.is_too_long line
+pub kept_is : (k : KeptLine) (line : List ℕ) (n : ℕ) → k ≡ kept_of line n → IsKept k.bytes k.is_too_long line
 kept_is k line n is = (ap (λ k. k.bytes) is, ap (λ k. k.is_too_long) is)
 
 -- a line that isn't too long is kept whole
@@ -74,6 +74,6 @@ pub kept_within : (bytes line : List ℕ) (flag : Bool) → IsKept bytes flag li
 kept_within bytes line true kept is = absurd (false≢true (sym is))
 kept_within bytes line false kept is = rw (← kept.1, kept_whole bytes line kept) refl
 
-pub kept_blank : (bytes line : List ℕ) (flag : Bool) → IsKept bytes flag line → flag ≡ false → list_all is_space bytes ≡ is_blank line
+pub kept_blank : (bytes line : List ℕ) (flag : Bool) → IsKept bytes flag line → flag ≡ false → list_all is_space bytes ≡ is_blank_line line
 kept_blank bytes line true kept is = absurd (false≢true (sym is))
 kept_blank bytes line false kept is = rw (← kept.1, kept_whole bytes line kept) refl

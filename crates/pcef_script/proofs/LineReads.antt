@@ -18,7 +18,7 @@ use Rattle.pcef_line.specs.LineOf.{LineOf}
 use Rattle.pcef_line.specs.LineValues.{Gives}
 use Rattle.pcef_script.specs.declared.step.LineAnswer.{LineAnswer}
 use Rattle.pcef_script.specs.ScriptAnswers.{AnswersAs, AnswersDue, DoesLine, DueWithin, IsDoneOrNot, IsDue}
-use Rattle.pcef_answer.specs.StepAnswers.{step_text}
+use Rattle.pcef_answer.specs.StepAnswers.{reply_text}
 use Rattle.pcef_world.specs.Steps.{Reply, Standing, standing_of, step_outcome}
 use Rattle.pcef_world.specs.Worlds.{World}
 
@@ -55,11 +55,11 @@ fault_read r p s text fault (due, read, inr is) told = IfOk-weaker r _ _ (λ a k
 
 -- the answer to a step that was made is the one that is due
 pub step_told : (r : Result (String Global) AllocError) (w : World) (j : Journal) (generation : ℕ) (reply : Reply) (due : Reply × Standing) → j ≡ w.session.journal → generation ≡ gen w.session.journal
-    → reply ≡ due.0 → standing_of w ≡ due.1 → IfOk r (λ text. string_bytes text ≡ step_text j generation reply) → IfOk r (λ text. IsDue due (string_bytes text) (standing_of w))
+    → reply ≡ due.0 → standing_of w ≡ due.1 → IfOk r (λ text. string_bytes text ≡ reply_text j generation reply) → IfOk r (λ text. IsDue due (string_bytes text) (standing_of w))
 step_told r w j generation reply due journal_is generation_is replied stands told =
     IfOk-weaker r _ _ (λ text is. (
-      is ∙ ap (λ l. step_text l generation reply) journal_is ∙ ap (λ n. step_text w.session.journal n reply) generation_is
-          ∙ ap (step_text w.session.journal (gen w.session.journal)) replied ∙ ap (λ (s : Standing). step_text s.journal (gen s.journal) due.0) stands,
+      is ∙ ap (λ l. reply_text l generation reply) journal_is ∙ ap (λ n. reply_text w.session.journal n reply) generation_is
+          ∙ ap (reply_text w.session.journal (gen w.session.journal)) replied ∙ ap (λ (s : Standing). reply_text s.journal (gen s.journal) due.0) stands,
       stands,
     )) told
 
@@ -76,7 +76,7 @@ done_more A B s t more (inr done) = inr (record { text = done.text; at_fault = d
 pub step_done : (p : Setting) (s t : Standing) (step : Step) → t ≡ (step_outcome p s step).1 → IsDoneOrNot (AnswersAs p s (Ok (line.Step step))) s t
 step_done p s t step is =
     let due = step_outcome p s step in
-    inr (record { text = step_text due.1.journal (gen due.1.journal) due.0; at_fault = false; answer = ((refl, is), refl) })
+    inr (record { text = reply_text due.1.journal (gen due.1.journal) due.0; at_fault = false; answer = ((refl, is), refl) })
 
 -- a line that was read
 pub line_lacks : (p : Setting) (s t : Standing) (text : List ℕ) (l : Line) → (due : Result Line LineFault) × LineOf text due × Gives (λ l. l) (Ok l) due

@@ -8,7 +8,7 @@ use Rattle.pcef_line.specs.declared.line.Line.TheVariants as line
 use Rattle.pcef_line.specs.declared.fault.LineFault.{LineFault}
 use Rattle.pcef_line.proofs.LineLaws.{due_once}
 use Rattle.pcef_answer.proofs.OneShow.{one_show}
-use Rattle.pcef_script.specs.ScriptAnswers.{Answers, AnswersAs, AnswersLine, DoesLine, DueWithin, LineDue, TextDue, number_of}
+use Rattle.pcef_script.specs.ScriptAnswers.{Answers, AnswersAs, AnswersLine, DoesLine, DueWithin, LineDue, TextDue, fault_count}
 use Rattle.pcef_script.specs.ScriptLines.{within_limit}
 
 one_text : (utf8 : Bool) (text : List ℕ) (d e : Result Line LineFault) → TextDue utf8 text d → TextDue utf8 text e → d ≡ e
@@ -41,6 +41,6 @@ one_script p before (l ∷ lines) a b m n after other (first, rest, fault, other
     let head = one_line p before l first first' fault fault' between between' answers answers' in
     let tail = one_script p between lines rest rest' others others' after other go_on (rw head.2 go_on') in (
       a_is ∙ ap (λ text. (text ++ 10 ∷ []) ++ rest) head.0 ∙ ap (λ text. (first' ++ 10 ∷ []) ++ text) tail.0 ∙ sym b_is,
-      m_is ∙ ap (λ at_fault. number_of at_fault + others) head.1 ∙ ap (λ count. number_of fault' + count) tail.1 ∙ sym n_is,
+      m_is ∙ ap (λ at_fault. fault_count at_fault + others) head.1 ∙ ap (λ count. fault_count fault' + count) tail.1 ∙ sym n_is,
       tail.2,
     )

@@ -5,7 +5,7 @@ use Rattle.pcef_model.specs.Setting.{Setting}
 use Rattle.pcef_world.specs.Worlds.{World}
 use Rattle.pcef_script.specs.declared.fault.ScriptFault.{ScriptFault}
 use Rattle.pcef_script.specs.declared.fault.ScriptFault.TheVariants as fault
-use Rattle.pcef_script.specs.ScriptLines.{Kept, script_most}
+use Rattle.pcef_script.specs.ScriptLines.{KeptLine, script_most}
 use Rattle.pcef_script.specs.Running.{EndFails, OpenFails, StoppedIn}
 use Rattle.pcef_script.specs.Runs.{ReadsWithin}
 
@@ -45,9 +45,9 @@ open_within fault.TooMuch input le f = absurd f
 open_within (fault.Profile _) input le f = more_by_one (length input) le
 
 -- a block that has room for no more than may still be read
-pub block_fits : (line : Kept) (input block : List ℕ) → line.read ≡ length input → length input ≤ script_most → length block ≤ script_most + 1 - line.read → length (input ++ block) ≤ script_most + 1
+pub block_fits : (line : KeptLine) (input block : List ℕ) → line.read ≡ length input → length input ≤ script_most → length block ≤ script_most + 1 - line.read → length (input ++ block) ≤ script_most + 1
 block_fits line input block read most room = omega (arith, length-append input block, read, most, room)
 
 -- something may still be read
-pub room_left : (line : Kept) (input : List ℕ) → line.read ≡ length input → length input ≤ script_most → 0 < script_most + 1 - line.read
+pub room_left : (line : KeptLine) (input : List ℕ) → line.read ≡ length input → length input ≤ script_most → 0 < script_most + 1 - line.read
 room_left line input read most = omega (arith, read, most)

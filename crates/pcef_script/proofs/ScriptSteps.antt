@@ -14,7 +14,7 @@ use Rattle.pcef_script.specs.declared.fault.ScriptFault.{ScriptFault}
 use Rattle.pcef_script.specs.declared.fault.ScriptFault.TheVariants as fault
 use Rattle.pcef_script.specs.ScriptAnswers.{Answers, answered}
 use Rattle.pcef_world.specs.Steps.{Standing, at_start, standing_of}
-use Rattle.pcef_script.specs.ScriptLines.{Kept, Takes, has_feed, kept_of, script_most}
+use Rattle.pcef_script.specs.ScriptLines.{KeptLine, TakesByte, has_feed, kept_of, script_most}
 use Rattle.pcef_script.specs.Running.{EndFails, EndsLine, IsAfter, OpenFails, Stopped, StoppedIn}
 use Rattle.pcef_script.specs.Scripts.{Opened, Ran, Wrote, all_lines, cut, ended_lines, last_line}
 use Rattle.pcef_writing.proofs.Fronts.{front_after}
@@ -26,7 +26,7 @@ one_longer : (input : List ℕ) (b : ℕ) → length (input ++ b ∷ []) ≡ len
 one_longer input b = length-append input (b ∷ [])
 
 -- the start
-pub at_first : (p : Setting) (start : Option (List ℕ)) (line : Kept) (faults : ℕ) (w : World) → line ≡ kept_of [] 0 → faults ≡ 0 → w.session.setting ≡ p → w.session.journal ≡ [] → w.workers ≡ []
+pub at_first : (p : Setting) (start : Option (List ℕ)) (line : KeptLine) (faults : ℕ) (w : World) → line ≡ kept_of [] 0 → faults ≡ 0 → w.session.setting ≡ p → w.session.journal ≡ [] → w.workers ≡ []
     → IsAfter p start start line faults w []
 unfolding cut
 at_first p start line faults w is none setting journal workers =
@@ -42,13 +42,13 @@ at_first p start line faults w is none setting journal workers =
     }
 
 -- a byte that is no line feed
-pub goes_on : (p : Setting) (start now : Option (List ℕ)) (old new : Kept) (faults : ℕ) (w : World) (input : List ℕ) (b : ℕ) → IsAfter p start now old faults w input → length input < script_most → b ≢ 10
+pub goes_on : (p : Setting) (start now : Option (List ℕ)) (old new : KeptLine) (faults : ℕ) (w : World) (input : List ℕ) (b : ℕ) → IsAfter p start now old faults w input → length input < script_most → b ≢ 10
     → new ≡ kept_of (last_line input ++ b ∷ []) (old.read + 1) → IsAfter p start now new faults w (input ++ b ∷ [])
 goes_on p start now old new faults w input b h lt ne is =
     let len = one_longer input b in
     let lines : ended_lines (input ++ b ∷ []) ≡ ended_lines input = ap (λ (c : List (List ℕ) × List ℕ). c.0) (cut_plain input b ne) in
     let last : last_line (input ++ b ∷ []) ≡ last_line input ++ b ∷ [] = ap (λ (c : List (List ℕ) × List ℕ). c.1) (cut_plain input b ne) in
-    let read : old.read + 1 ≡ length (input ++ b ∷ []) = ap (λ (k : Kept). k.read + 1) h.kept ∙ sym len in
+    let read : old.read + 1 ≡ length (input ++ b ∷ []) = ap (λ (k : KeptLine). k.read + 1) h.kept ∙ sym len in
     record {
       kept = is ∙ ap (λ l. kept_of l (old.read + 1)) (sym last) ∙ ap (kept_of (last_line (input ++ b ∷ []))) read;
       most = omega (arith, len, lt);
@@ -60,13 +60,13 @@ goes_on p start now old new faults w input b h lt ne is =
     }
 
 -- bytes among which is no line feed
-pub goes_on_run : (p : Setting) (start now : Option (List ℕ)) (old new : Kept) (faults : ℕ) (w : World) (input run : List ℕ) → IsAfter p start now old faults w input → length input + length run ≤ script_most → has_feed run ≡ false
+pub goes_on_run : (p : Setting) (start now : Option (List ℕ)) (old new : KeptLine) (faults : ℕ) (w : World) (input run : List ℕ) → IsAfter p start now old faults w input → length input + length run ≤ script_most → has_feed run ≡ false
     → new ≡ kept_of (last_line input ++ run) (old.read + length run) → IsAfter p start now new faults w (input ++ run)
 goes_on_run p start now old new faults w input run h most none is =
     let len : length (input ++ run) ≡ length input + length run = length-append input run in
     let lines : ended_lines (input ++ run) ≡ ended_lines input = ap (λ (c : List (List ℕ) × List ℕ). c.0) (cut_run input run none) in
     let last : last_line (input ++ run) ≡ last_line input ++ run = ap (λ (c : List (List ℕ) × List ℕ). c.1) (cut_run input run none) in
-    let read : old.read + length run ≡ length (input ++ run) = ap (λ (k : Kept). k.read + length run) h.kept ∙ sym len in
+    let read : old.read + length run ≡ length (input ++ run) = ap (λ (k : KeptLine). k.read + length run) h.kept ∙ sym len in
     record {
       kept = is ∙ ap (λ l. kept_of l (old.read + length run)) (sym last) ∙ ap (kept_of (last_line (input ++ run))) read;
       most = omega (arith, len, most);
@@ -84,13 +84,13 @@ answers_on p lines line x y n k s t h g =
     subst (λ ls. Answers p at_start ls (x ++ y) (n + k) t) (sym (answered_more lines (line ∷ []))) (answers_more p at_start s t (answered lines) (answered (line ∷ [])) x y n k h g)
 
 -- a line feed
-pub line_ends : (p : Setting) (start a b : Option (List ℕ)) (old new : Kept) (faults n : ℕ) (v w : World) (input : List ℕ) → IsAfter p start a old faults v input → length input < script_most
+pub line_ends : (p : Setting) (start a b : Option (List ℕ)) (old new : KeptLine) (faults n : ℕ) (v w : World) (input : List ℕ) → IsAfter p start a old faults v input → length input < script_most
     → new ≡ kept_of [] (old.read + 1) → w.session.setting ≡ p → EndsLine p v w (last_line input) faults n a b → IsAfter p start b new n w (input ++ 10 ∷ [])
 line_ends p start a b old new faults n v w input h lt is setting e =
     let len = one_longer input 10 in
     let lines : ended_lines (input ++ 10 ∷ []) ≡ all_lines input = ap (λ (c : List (List ℕ) × List ℕ). c.0) (cut_end input) in
     let last : last_line (input ++ 10 ∷ []) ≡ [] = ap (λ (c : List (List ℕ) × List ℕ). c.1) (cut_end input) in
-    let read : old.read + 1 ≡ length (input ++ 10 ∷ []) = ap (λ (k : Kept). k.read + 1) h.kept ∙ sym len in
+    let read : old.read + 1 ≡ length (input ++ 10 ∷ []) = ap (λ (k : KeptLine). k.read + 1) h.kept ∙ sym len in
     let joined = answers_on p (ended_lines input) (last_line input) h.text e.0 faults e.1 (standing_of v) (standing_of w) h.answers e.2 in
     record {
       kept = is ∙ ap (λ l. kept_of l (old.read + 1)) (sym last) ∙ ap (kept_of (last_line (input ++ 10 ∷ []))) read;
@@ -103,11 +103,11 @@ line_ends p start a b old new faults n v w input h lt is setting e =
       written = Appends-trans start a b h.text e.0 h.written e.5;
     }
 
-pub wrote : (p : Setting) (start now : Option (List ℕ)) (line : Kept) (faults : ℕ) (w : World) (input : List ℕ) → IsAfter p start now line faults w input → Wrote p (ended_lines input) faults start now
+pub wrote : (p : Setting) (start now : Option (List ℕ)) (line : KeptLine) (faults : ℕ) (w : World) (input : List ℕ) → IsAfter p start now line faults w input → Wrote p (ended_lines input) faults start now
 wrote p start now line faults w input h = (h.text, standing_of w, h.answers, h.written)
 
 -- a line's answer wasn't written whole
-pub line_fails : (p : Setting) (start a b : Option (List ℕ)) (line : Kept) (faults : ℕ) (w : World) (input : List ℕ) (e : ScriptFault) → IsAfter p start a line faults w input → EndFails p w (last_line input) e a b
+pub line_fails : (p : Setting) (start a b : Option (List ℕ)) (line : KeptLine) (faults : ℕ) (w : World) (input : List ℕ) (e : ScriptFault) → IsAfter p start a line faults w input → EndFails p w (last_line input) e a b
     → Stopped p e 10 start b input
 line_fails p start a b line faults w input fault.Write h f =
     let joined = answers_on p (ended_lines input) (last_line input) h.text f.0 faults f.1 (standing_of w) f.2 h.answers f.3 in
@@ -123,14 +123,14 @@ pub around : (s : List ℕ) (i : ℕ) → i < length s → s ≡ take i s ++ get
 around s i lt = sym (take-append-drop i s) ∙ ap (λ t. take i s ++ t) (at_drop_more (λ t. t) s i 0 lt)
 
 -- ---- a byte
-pub kept_at : (line : Kept) (whole : List ℕ) (n : ℕ) → line ≡ kept_of whole n → line ≡ kept_of whole line.read
-kept_at line whole n is = is ∙ ap (kept_of whole) (sym (ap (λ (k : Kept). k.read) is))
+pub kept_at : (line : KeptLine) (whole : List ℕ) (n : ℕ) → line ≡ kept_of whole n → line ≡ kept_of whole line.read
+kept_at line whole n is = is ∙ ap (kept_of whole) (sym (ap (λ (k : KeptLine). k.read) is))
 
-pub kept_now : (line : Kept) (input : List ℕ) → line ≡ kept_of (last_line input) (length input) → line ≡ kept_of (last_line input) line.read
+pub kept_now : (line : KeptLine) (input : List ℕ) → line ≡ kept_of (last_line input) (length input) → line ≡ kept_of (last_line input) line.read
 kept_now line input is = kept_at line (last_line input) (length input) is
 
-pub read_is : (line : Kept) (input : List ℕ) → line ≡ kept_of (last_line input) (length input) → line.read ≡ length input
-read_is line input is = ap (λ (k : Kept). k.read) is
+pub read_is : (line : KeptLine) (input : List ℕ) → line ≡ kept_of (last_line input) (length input) → line.read ≡ length input
+read_is line input is = ap (λ (k : KeptLine). k.read) is
 
 abbrev failed : ScriptFault → Result Bool ScriptFault
 failed e = Err e
@@ -139,7 +139,7 @@ Ok_differs : (flag : Bool) → Ok flag ≡ failed fault.TooMuch → ⊥
 Ok_differs flag same = false≢true (sym (ap is_ok same))
 
 -- a byte that was taken was within the most of a script
-pub was_within : (flag : Bool) (line : Kept) (input : List ℕ) → line ≡ kept_of (last_line input) (length input) → (script_most ≤ line.read → Ok flag ≡ failed fault.TooMuch) → length input < script_most
+pub was_within : (flag : Bool) (line : KeptLine) (input : List ℕ) → line ≡ kept_of (last_line input) (length input) → (script_most ≤ line.read → Ok flag ≡ failed fault.TooMuch) → length input < script_most
 was_within flag line input is much = by_test (nat_lt (length input) script_most) refl
   where
     by_test : (test : Bool) → nat_lt (length input) script_most ≡ test → length input < script_most
@@ -149,18 +149,18 @@ was_within flag line input is much = by_test (nat_lt (length input) script_most)
         absurd (Ok_differs flag (much (omega (arith, enough, read_is line input is))))
 
 -- the byte is no line feed
-pub took_plain : (flag : Bool) (b : ℕ) (line : List ℕ) (old new : Kept) → flag ≡ false → Takes b line old (Ok flag) new → (b ≢ 10) × (new ≡ kept_of (line ++ b ∷ []) (old.read + 1))
+pub took_plain : (flag : Bool) (b : ℕ) (line : List ℕ) (old new : KeptLine) → flag ≡ false → TakesByte b line old (Ok flag) new → (b ≢ 10) × (new ≡ kept_of (line ++ b ∷ []) (old.read + 1))
 took_plain true b line old new is t = absurd (false≢true (sym is))
 took_plain false b line old new is t = t
 
 -- the byte is a line feed
-pub took_end : (flag : Bool) (b : ℕ) (line : List ℕ) (old new : Kept) → flag ≡ true → Takes b line old (Ok flag) new → (b ≡ 10) × (new ≡ kept_of line (old.read + 1))
+pub took_end : (flag : Bool) (b : ℕ) (line : List ℕ) (old new : KeptLine) → flag ≡ true → TakesByte b line old (Ok flag) new → (b ≡ 10) × (new ≡ kept_of line (old.read + 1))
 took_end false b line old new is t = absurd (false≢true is)
 took_end true b line old new is t = t
 
 -- the byte wasn't taken
-pub take_fails : (p : Setting) (start now : Option (List ℕ)) (old new : Kept) (faults : ℕ) (w : World) (input : List ℕ) (b : ℕ) (e : ScriptFault) → IsAfter p start now old faults w input
-    → Takes b (last_line input) old (Err e) new → (failed e ≡ failed fault.TooMuch → script_most ≤ old.read) → Stopped p e b start now input
+pub take_fails : (p : Setting) (start now : Option (List ℕ)) (old new : KeptLine) (faults : ℕ) (w : World) (input : List ℕ) (b : ℕ) (e : ScriptFault) → IsAfter p start now old faults w input
+    → TakesByte b (last_line input) old (Err e) new → (failed e ≡ failed fault.TooMuch → script_most ≤ old.read) → Stopped p e b start now input
 take_fails p start now old new faults w input b fault.TooMuch h t much =
     let most : length input ≡ script_most = omega (arith, h.most, much refl, read_is old input h.kept) in
     (most, faults, wrote p start now old faults w input h)
@@ -169,7 +169,7 @@ take_fails p start now old new faults w input b fault.Read h t much = absurd t
 take_fails p start now old new faults w input b fault.Write h t much = absurd t
 take_fails p start now old new faults w input b (fault.Profile _) h t much = absurd t
 
-pub few_faults : (p : Setting) (start now : Option (List ℕ)) (line : Kept) (faults : ℕ) (w : World) (input : List ℕ) → IsAfter p start now line faults w input → faults < 2 ^ 63
+pub few_faults : (p : Setting) (start now : Option (List ℕ)) (line : KeptLine) (faults : ℕ) (w : World) (input : List ℕ) → IsAfter p start now line faults w input → faults < 2 ^ 63
 few_faults p start now line faults w input h = omega (arith, h.few, h.most)
 
 -- ---- blocks
@@ -178,7 +178,7 @@ one_on input s i lt =
     append_assoc input (take i s) (get_or s i 0 ∷ []) ∙ ap (λ t. input ++ t) (sym (take-suc s i 0 lt)) ∙ ap (λ n. input ++ take n s) (sym (add-one i))
 
 -- the input is over
-pub at_end : (r : Result ℕ ScriptFault) (p : Setting) (start a b left : Option (List ℕ)) (line : Kept) (faults : ℕ) (v w : World) (input : List ℕ) → IsAfter p start a line faults v input → IsAtEnd left
+pub at_end : (r : Result ℕ ScriptFault) (p : Setting) (start a b left : Option (List ℕ)) (line : KeptLine) (faults : ℕ) (v w : World) (input : List ℕ) → IsAfter p start a line faults v input → IsAtEnd left
     → IfOk r (λ n. EndsLine p v w (last_line input) faults n a b) → IfErr r (λ e. EndFails p v (last_line input) e a b) → Ran p r start b left input
 at_end (Ok n) p start a b left line faults v w input h end ok err =
     let joined = answers_on p (ended_lines input) (last_line input) h.text ok.0 faults ok.1 (standing_of v) (standing_of w) h.answers ok.2 in (
@@ -228,7 +228,7 @@ ended_by_last input front rest none =
     ∙ ap (λ (c : List (List ℕ) × List ℕ). c.0) (cut_end (input ++ front))
 
 -- the answers are written, and can't be flushed
-pub flush_fails : (p : Setting) (start now new : Option (List ℕ)) (line : Kept) (faults : ℕ) (w : World) (input block : List ℕ) → IsAfter p start now line faults w (input ++ block) → Keeps now new → has_feed block ≡ true
+pub flush_fails : (p : Setting) (start now new : Option (List ℕ)) (line : KeptLine) (faults : ℕ) (w : World) (input block : List ℕ) → IsAfter p start now line faults w (input ++ block) → Keeps now new → has_feed block ≡ true
     → StoppedIn p fault.Write start new input block
 flush_fails p start now new line faults w input block h kept some =
     let c = last_feed block some in
@@ -272,11 +272,11 @@ stopped_later p e start now input front rest block is h =
     (front ++ h.0, h.1, h.2, is ∙ ap (λ t. front ++ t) h.3 ∙ sym (append_assoc front h.0 (h.1 ∷ h.2)), subst (Stopped p e h.1 start now) (append_assoc input front h.0) h.4)
 
 -- `n` bytes of a block, among which is no line feed
-pub ran_on : (p : Setting) (start now : Option (List ℕ)) (old new : Kept) (faults : ℕ) (w : World) (input block : List ℕ) (n : ℕ) → IsAfter p start now old faults w input → n ≤ length block → has_feed (take n block) ≡ false
+pub ran_on : (p : Setting) (start now : Option (List ℕ)) (old new : KeptLine) (faults : ℕ) (w : World) (input block : List ℕ) (n : ℕ) → IsAfter p start now old faults w input → n ≤ length block → has_feed (take n block) ≡ false
     → (old.read ≤ script_most → old.read + n ≤ script_most) → new ≡ kept_of (last_line input ++ take n block) (old.read + n) → IsAfter p start now new faults w (input ++ take n block)
 ran_on p start now old new faults w input block n h le none most is =
     let len : length (take n block) ≡ n = omega (arith, length-take n block, le) in
-    let read : old.read ≡ length input = ap (λ (k : Kept). k.read) h.kept in
+    let read : old.read ≡ length input = ap (λ (k : KeptLine). k.read) h.kept in
     let fits : length input + length (take n block) ≤ script_most = omega (arith, len, read, most (omega (arith, read, h.most))) in
     goes_on_run p start now old new faults w input (take n block) h fits none (is ∙ ap (λ k. kept_of (last_line input ++ take n block) (old.read + k)) (sym len))
 

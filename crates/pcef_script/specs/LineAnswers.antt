@@ -11,7 +11,7 @@ use Rattle.pcef_line.specs.declared.fault.LineFault.{LineFault}
 use Rattle.pcef_line.specs.declared.fault.LineFault.TheVariants.{NoMemory}
 use Rattle.pcef_script.specs.declared.step.LineAnswer.{LineAnswer}
 use Rattle.pcef_script.specs.ScriptAnswers.{AnswersAs, AnswersDue, AnswersLine, DoesLine, IsDoneOrNot, IsDue}
-use Rattle.pcef_script.specs.ScriptLines.{ForLine, Kept}
+use Rattle.pcef_script.specs.ScriptLines.{ForLine, KeptLine}
 
 -- the bytes that are written for an answer: its text and a line feed
 abbrev pub answer_bytes : LineAnswer → List ℕ
@@ -56,7 +56,7 @@ AnswersBy Due before a after =
     AnswersDue Due before.session.setting (standing_of before) (string_bytes a.text) a.is_fault (standing_of after)
 
 -- the answer to the line that this is kept of, and the world after it
-abbrev pub AnswersKept : Kept → World → Result LineAnswer AllocError → World → Type 0
+abbrev pub AnswersKept : KeptLine → World → Result LineAnswer AllocError → World → Type 0
 AnswersKept kept before result after =
     ForLine kept (λ line. IfOk result (λ a.
     AnswersLine before.session.setting (standing_of before) line (string_bytes a.text) a.is_fault (standing_of after)))

@@ -5,12 +5,12 @@ use Rattle.pcef_world.specs.Worlds.{World}
 use Rattle.pcef_script.specs.declared.step.LineAnswer.{LineAnswer}
 use Rattle.pcef_script.specs.LineAnswers.{AnswersBy}
 use Rattle.pcef_script.specs.ScriptAnswers.{LacksForLine, LineDue}
-use Rattle.pcef_script.specs.ScriptLines.{is_blank}
+use Rattle.pcef_script.specs.ScriptLines.{is_blank_line}
 
 -- a blank line gets no answer and changes nothing; any other is answered as in a script
 abbrev pub AnswersAlone : List ℕ → World → Option LineAnswer → World → Type 0
-AnswersAlone line before None after = (is_blank line ≡ true) × (after ≡ before)
-AnswersAlone line before (Some a) after = (is_blank line ≡ false) × AnswersBy (LineDue line) before a after
+AnswersAlone line before None after = (is_blank_line line ≡ true) × (after ≡ before)
+AnswersAlone line before (Some a) after = (is_blank_line line ≡ false) × AnswersBy (LineDue line) before a after
 
 -- where memory is lacking, the line is done or not
 abbrev pub LacksAlone : List ℕ → World → World → Type 0

@@ -9,7 +9,7 @@ use Rattle.pcef_script.specs.declared.fault.ScriptFault.TheVariants as fault
 use Rattle.pcef_script.specs.declared.running.Running.{Running}
 use Rattle.pcef_script.specs.ScriptAnswers.{Answers, answered}
 use Rattle.pcef_world.specs.Steps.{Standing, at_start, standing_of}
-use Rattle.pcef_script.specs.ScriptLines.{ForLine, Kept, kept_of, script_most}
+use Rattle.pcef_script.specs.ScriptLines.{ForLine, KeptLine, kept_of, script_most}
 use Rattle.pcef_writing.specs.Writing.{AppendsFront}
 use Rattle.pcef_script.specs.Scripts.{Wrote, WroteFront, all_lines, ended_lines, last_line}
 
@@ -33,7 +33,7 @@ EndFails p before line fault.NoMemory old new = Appends old new []
 EndFails p before line other old new = ⊥
 
 -- so much was read, and the lines that ended are answered
-pub record IsAfter (p : Setting) (start now : Option (List ℕ)) (line : Kept) (faults : ℕ) (world : World) (input : List ℕ) : Type 0 where
+pub record IsAfter (p : Setting) (start now : Option (List ℕ)) (line : KeptLine) (faults : ℕ) (world : World) (input : List ℕ) : Type 0 where
   pub kept : line ≡ kept_of (last_line input) (length input)
   pub most : length input ≤ script_most
   pub few : faults ≤ length input
@@ -89,12 +89,12 @@ StopsIn result old before new bytes =
 
 -- ---- the end of a line
 -- the line that this is kept of was answered, or is blank
-abbrev pub EndsKept : Kept → ℕ → World → Result ℕ ScriptFault → World → Option (List ℕ) → Option (List ℕ) → Type 0
+abbrev pub EndsKept : KeptLine → ℕ → World → Result ℕ ScriptFault → World → Option (List ℕ) → Option (List ℕ) → Type 0
 EndsKept kept faults before result after old new =
     ForLine kept (λ line. faults < 2 ^ 63 →
     IfOk result (λ n. EndsLine before.session.setting before after line faults n old new))
 
 -- its answer wasn't written whole
-abbrev pub FailsKept : Kept → World → Result ℕ ScriptFault → Option (List ℕ) → Option (List ℕ) → Type 0
+abbrev pub FailsKept : KeptLine → World → Result ℕ ScriptFault → Option (List ℕ) → Option (List ℕ) → Type 0
 FailsKept kept before result old new =
     ForLine kept (λ line. IfErr result (λ e. EndFails before.session.setting before line e old new))

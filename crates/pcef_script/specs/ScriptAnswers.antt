@@ -11,14 +11,14 @@ use Rattle.pcef_line.specs.declared.fault.LineFault.{LineFault}
 use Rattle.pcef_line.specs.declared.fault.LineFault.TheVariants.{LineTooLong, NotUtf8}
 use Rattle.pcef_answer.specs.FaultAnswers.{fault_text}
 use Rattle.pcef_line.specs.LineOf.{LineOf}
-use Rattle.pcef_script.specs.ScriptLines.{is_blank, within_limit}
+use Rattle.pcef_script.specs.ScriptLines.{is_blank_line, within_limit}
 use Rattle.pcef_answer.specs.ShowAnswers.{ShowsJournal}
-use Rattle.pcef_answer.specs.StepAnswers.{step_text}
+use Rattle.pcef_answer.specs.StepAnswers.{reply_text}
 
 -- ---- what a line asks for is done
 -- a step is made, and this text is its answer; out of memory is no answer, but ends the script
 abbrev pub IsDue : Reply × Standing → List ℕ → Standing → Type 0
-IsDue due text after = (text ≡ step_text due.1.journal (gen due.1.journal) due.0) × (after ≡ due.1)
+IsDue due text after = (text ≡ reply_text due.1.journal (gen due.1.journal) due.0) × (after ≡ due.1)
 
 -- `show` changes nothing
 abbrev pub DoesLine : Setting → Standing → Line → List ℕ → Standing → Type 0
@@ -63,15 +63,15 @@ IsDoneOrNot Answer before after = (after ≡ before) ⊎ IsDone Answer after
 
 -- memory is never lacking for a blank line
 abbrev pub LacksForLine : Setting → Standing → List ℕ → Standing → Type 0
-LacksForLine p before line after = (is_blank line ≡ false) × IsDoneOrNot (AnswersLine p before line) before after
+LacksForLine p before line after = (is_blank_line line ≡ false) × IsDoneOrNot (AnswersLine p before line) before after
 
 -- ---- many lines
 -- the lines that get an answer
 abbrev pub answered : List (List ℕ) → List (List ℕ)
-answered lines = filter (λ line. not (is_blank line)) lines
+answered lines = filter (λ line. not (is_blank_line line)) lines
 
-abbrev pub number_of : Bool → ℕ
-number_of at_fault = if at_fault then 1 else 0
+abbrev pub fault_count : Bool → ℕ
+fault_count at_fault = if at_fault then 1 else 0
 
 -- the answers to lines, each ended by a line feed, one after the other, and how many lines are at fault
 abbrev pub Answers : Setting → Standing → List (List ℕ) → List ℕ → ℕ → Standing → Type 0
@@ -79,4 +79,4 @@ Answers p before [] text faults after = (text ≡ []) × (faults ≡ 0) × (afte
 Answers p before (line ∷ lines) text faults after =
     (first rest : List ℕ) × (at_fault : Bool) × (others : ℕ) × (between : Standing)
     × AnswersLine p before line first at_fault between × Answers p between lines rest others after
-    × (text ≡ (first ++ 10 ∷ []) ++ rest) × (faults ≡ number_of at_fault + others)
+    × (text ≡ (first ++ 10 ∷ []) ++ rest) × (faults ≡ fault_count at_fault + others)

@@ -23,27 +23,27 @@ within_limit line = if is_too_long line then None else Some line
 abbrev pub is_space : ℕ → Bool
 is_space b = ((b == 32) || (b == 9)) || (b == 13)
 
-abbrev pub is_blank : List ℕ → Bool
-is_blank line = not (is_too_long line) && list_all is_space line
+abbrev pub is_blank_line : List ℕ → Bool
+is_blank_line line = not (is_too_long line) && list_all is_space line
 
 -- what is kept of a line, and how many bytes of the script were read
-pub record Kept : Type 0 where
+pub record KeptLine : Type 0 where
   pub bytes : List ℕ
   pub is_too_long : Bool
   pub read : ℕ
 
 -- of a line that is too long only the front
-abbrev pub kept_of : List ℕ → ℕ → Kept
+abbrev pub kept_of : List ℕ → ℕ → KeptLine
 kept_of line read = record { bytes = take line_most line; is_too_long = is_too_long line; read = read }
 
 -- What is answered to a byte, and what is kept then: a line feed ends the line, and any other byte is one
 -- more of it. Where the script is too long or memory runs out, the line stays as it was.
-abbrev pub Takes : ℕ → List ℕ → Kept → Result Bool ScriptFault → Kept → Type 0
-Takes byte line old (Ok true) new = (byte ≡ 10) × (new ≡ kept_of line (old.read + 1))
-Takes byte line old (Ok false) new = (byte ≢ 10) × (new ≡ kept_of (line ++ byte ∷ []) (old.read + 1))
-Takes byte line old (Err fault.TooMuch) new = new ≡ old
-Takes byte line old (Err fault.NoMemory) new = new ≡ old
-Takes byte line old (Err other) new = ⊥
+abbrev pub TakesByte : ℕ → List ℕ → KeptLine → Result Bool ScriptFault → KeptLine → Type 0
+TakesByte byte line old (Ok true) new = (byte ≡ 10) × (new ≡ kept_of line (old.read + 1))
+TakesByte byte line old (Ok false) new = (byte ≢ 10) × (new ≡ kept_of (line ++ byte ∷ []) (old.read + 1))
+TakesByte byte line old (Err fault.TooMuch) new = new ≡ old
+TakesByte byte line old (Err fault.NoMemory) new = new ≡ old
+TakesByte byte line old (Err other) new = ⊥
 
 -- the writer failed, and some of the bytes, from the first on, stand after what was written before
 abbrev pub WritesFront : Option (List ℕ) → Option (List ℕ) → List ℕ → ScriptFault → Type 0
@@ -63,5 +63,5 @@ KeepsByte byte old old_flag result new new_flag =
     (line : List ℕ) → IsKept old old_flag line → OnOk result (IsKept new new_flag (line ++ byte ∷ []))
 
 -- it is so of whatever line this is kept of
-abbrev pub ForLine : Kept → (List ℕ → Type 0) → Type 0
+abbrev pub ForLine : KeptLine → (List ℕ → Type 0) → Type 0
 ForLine kept P = (line : List ℕ) → kept ≡ kept_of line kept.read → P line

@@ -2,7 +2,7 @@
 
 ghost use Rattle.std.specs.Prelude.{◌≡◌, ◌≤◌, ◌+◌, ◌-◌, ◌↔◌, ◌++◌, [], Err, IfErr, false, length, option_map, take};
 ghost use Rattle.pcef_script.specs.declared.fault.ScriptFault.TheVariants.{NoMemory, TooMuch};
-ghost use Rattle.pcef_script.specs.ScriptLines.{ForLine, KeepsByte, script_most, kept_of, Takes, has_feed, is_blank, within_limit};
+ghost use Rattle.pcef_script.specs.ScriptLines.{ForLine, KeepsByte, script_most, kept_of, TakesByte, has_feed, is_blank_line, within_limit};
 
 use crate::fault::ScriptFault;
 use crate::lines::{MAX_LINE, is_space};
@@ -22,9 +22,9 @@ pub struct Pending {
 }
 
 impl Model for Pending {
-    ghost use Rattle.pcef_script.specs.ScriptLines.{Kept};
+    ghost use Rattle.pcef_script.specs.ScriptLines.{KeptLine};
 
-    ghost Value = { Kept };
+    ghost Value = { KeptLine };
 
     ghost view = { λ p. record {
       bytes = p.bytes.items;
@@ -105,7 +105,7 @@ impl Pending {
     /// Takes one byte, and returns whether it ends the line.
     pub(crate) fn take(&mut self, byte: u8) -> Result<bool, ScriptFault>
         ensures much { (result ≡ Err TooMuch) ↔ (script_most ≤ self.old.read) }
-        ensures line { ForLine self.old (λ line. Takes byte line self.old result self.new) }
+        ensures line { ForLine self.old (λ line. TakesByte byte line self.old result self.new) }
     {
         if self.read >= MAX_SCRIPT {
             return Err(ScriptFault::TooMuch);
@@ -136,7 +136,7 @@ impl Pending {
 
     /// Whether the line gets no answer: it is within the limit and holds only spaces, tabs and CR.
     pub(crate) fn is_blank(&self) -> bool
-        ensures { ForLine self.now (λ line. result ≡ is_blank line) }
+        ensures { ForLine self.now (λ line. result ≡ is_blank_line line) }
     {
         !self.is_too_long && is_space(&self.bytes)
     }

@@ -6,7 +6,7 @@ ghost use Rattle.pcef_line.specs.LineValues.{Gives};
 ghost use Rattle.pcef_line.specs.declared.line.Line.{Line};
 ghost use Rattle.pcef_line.specs.declared.fault.LineFault.{LineFault};
 ghost use Rattle.pcef_script.specs.ScriptAnswers.{LineDue};
-ghost use Rattle.pcef_script.specs.ScriptLines.{is_blank, is_space};
+ghost use Rattle.pcef_script.specs.ScriptLines.{is_blank_line, is_space};
 ghost use Rattle.pcef_script.specs.Scripts.{IsFirstLine};
 
 use memchr::memchr;
@@ -29,7 +29,7 @@ pub(crate) fn is_space(bytes: &[u8]) -> bool
 /// Whether a script leaves a line without an answer: it has at most [`MAX_LINE`] bytes, all of them spaces, tabs and
 /// CR.
 pub fn is_blank(line: &[u8]) -> bool
-    ensures { result ≡ is_blank line.now }
+    ensures { result ≡ is_blank_line line.now }
 {
     line.len() <= MAX_LINE && is_space(line)
 }

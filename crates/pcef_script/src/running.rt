@@ -4,7 +4,7 @@ ghost use Rattle.std.specs.Prelude.{◌≡◌, ◌<◌, ◌≤◌, ◌+◌, ◌�
 ghost use Rattle.std.specs.Io.KnownBytes.{Appends};
 ghost use Rattle.pcef_model.specs.Journals.{report_count};
 ghost use Rattle.pcef_script.specs.LineAnswers.{AnswersKept, answer_bytes};
-ghost use Rattle.pcef_script.specs.ScriptAnswers.{number_of};
+ghost use Rattle.pcef_script.specs.ScriptAnswers.{fault_count};
 ghost use Rattle.pcef_script.specs.ScriptLines.{WritesFront, has_feed, kept_of};
 ghost use Rattle.pcef_script.specs.Running.{EndsKept, FailsKept, ReadsAll, ReadsSome, StopsAt, StopsIn, script_offers};
 
@@ -57,7 +57,7 @@ fn write_and_count<W: Write>(
     faults: u64,
 ) -> Result<u64, ScriptFault>
     ensures count { faults < 2 ^ 63 →
-        IfOk result (λ n. n ≡ faults + number_of answer.now.is_fault) }
+        IfOk result (λ n. n ≡ faults + fault_count answer.now.is_fault) }
     ensures all { OnOk result (Appends (W.contents writer.old) (W.contents writer.new)
         (answer_bytes answer.now)) }
     ensures front { IfErr result (WritesFront (W.contents writer.old) (W.contents writer.new)

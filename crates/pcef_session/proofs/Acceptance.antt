@@ -17,7 +17,7 @@ use Rattle.pcef_model.specs.Entries.{Journal}
 use Rattle.pcef_model.specs.Journals.{now, slots}
 use Rattle.pcef_usage.specs.declared.usage.KeyState.{KeyState}
 use Rattle.pcef_usage.specs.Commands.{Asks}
-use Rattle.pcef_usage.specs.Keys.{finds_no_slot as slotless, keys_of}
+use Rattle.pcef_usage.specs.Keys.{finds_no_place as slotless, keys_of}
 use Rattle.pcef_bearer.specs.Standing.{binding_of}
 use Rattle.pcef_session.specs.declared.prepared.Activation.{Activation}
 use Rattle.pcef_model.specs.Outcomes.{Gives, accepted, bearer_named, changes, command_outcome}

@@ -4,7 +4,7 @@ use Rattle.pcef_catalog.proofs.Alternatives.{list_any_map}
 use Rattle.std.proofs.Common.{◌≡◌, ◌∙◌, ℕ, Bool, true, false, List, [], ◌∷◌, refl, sym, ap, arith, inl, inr, filter, Contains, Some, find, ◌==◌}
 use Rattle.std.specs.List.{list_any}
 use Rattle.std.proofs.lemmas.Bool.{cases_Bool}
-use Rattle.pcef_bearer.specs.Bindings.{bearer_of, guaranteed, is_present, rules_on, total_down as bound_down, total_up as bound_up}
+use Rattle.pcef_bearer.specs.Bindings.{bearer_of_rule, guaranteed, is_present, rules_on, bound_down, bound_up}
 use Rattle.pcef_model.proofs.Names.{Once}
 use Rattle.pcef_model.specs.Setting.{Setting, same_name, same_qos}
 use Rattle.pcef_model.specs.ActiveRules.{Active, is_named}
@@ -29,7 +29,7 @@ use Rattle.pcef_model.proofs.BearerIds.{lawful_bound, lawful_distinct}
 
 -- ---- the bearer of a rule
 found_bearer : (g : Generation) (rules : List Active) (r : Active) → NamesOnce rules → Contains rules r →
-    bearer_of r.properties.name (bound_of g rules) ≡ Some (record { 0 = g.id_of r.properties.qos })
+    bearer_of_rule r.properties.name (bound_of g rules) ≡ Some (record { 0 = g.id_of r.properties.qos })
 unfolding Once
 found_bearer g [] r once there = absurd (omega (arith, there.1))
 found_bearer g (x ∷ rules) r once there =
@@ -46,7 +46,7 @@ found_bearer g (x ∷ rules) r once there =
     ]
 
 -- the bearer of a name is that of the rule of the name
-pub bearer_bound : (name : List ℕ) (g : Generation) (rules : List Active) → bearer_of name (bound_of g rules) ≡ told_bearer g (find (is_named name) rules)
+pub bearer_bound : (name : List ℕ) (g : Generation) (rules : List Active) → bearer_of_rule name (bound_of g rules) ≡ told_bearer g (find (is_named name) rules)
 bearer_bound name g [] = refl
 bearer_bound name g (r ∷ rules) =
     elim (cases_Bool (is_named name r)) [
@@ -55,7 +55,7 @@ bearer_bound name g (r ∷ rules) =
     ]
 
 pub stands_on : (p : Setting) (j : Journal) (r : Active) → Contains (now p j).rules r →
-    bearer_of r.properties.name (binding_of p (now p j)).bound ≡ Some (record { 0 = (now p j).id_of r.properties.qos })
+    bearer_of_rule r.properties.name (binding_of p (now p j)).bound ≡ Some (record { 0 = (now p j).id_of r.properties.qos })
 stands_on p j r there = found_bearer (now p j) (now p j).rules r (made_once p (tables j)) there
 
 -- ---- the sums of a bearer

@@ -1,5 +1,5 @@
 -- A session that has done a command agrees with the journal after it.
-use Rattle.pcef_bearer.specs.Bindings.{is_named as bound_named}
+use Rattle.pcef_bearer.specs.Bindings.{is_bound_as as bound_named}
 use Rattle.std.proofs.Common.{◌≡◌, ◌∙◌, ◌≤◌, ℕ, Bool, true, false, List, [], ◌∷◌, length, refl, sym, ap, subst, arith, inl, inr, find, map, Some, None}
 use Rattle.std.specs.Prelude.{Option, Ok, Err, filter, not}
 use Rattle.std.specs.List.{AllByRecursion, list_any}
@@ -25,7 +25,7 @@ use Rattle.pcef_model.proofs.Growth.{now_after_table}
 use Rattle.pcef_model.proofs.Sameness.{same_name_of}
 use Rattle.pcef_usage.specs.declared.usage.KeyState.{KeyState}
 use Rattle.pcef_usage.specs.Commands.{Asks, entered, started_by, subscribed_by}
-use Rattle.pcef_usage.specs.Keys.{finds_no_slot, keys_of, levels_of, with_slot}
+use Rattle.pcef_usage.specs.Keys.{finds_no_place, keys_of, levels_of, with_slot}
 use Rattle.pcef_usage.specs.PendingReports.{AllCount, AllOn, settled_states, threshold_reports, states_stopped, after_reports, appended}
 use Rattle.pcef_usage.proofs.Afterwards.{few_entered, subscribed_after, subscribed_after_command}
 use Rattle.pcef_model.proofs.AfterEvents.{now_after, slots_after}
@@ -40,7 +40,7 @@ use Rattle.pcef_model.specs.Outcomes.{CommandStep, Gives, IsRefused, bearer_name
 use Rattle.pcef_bearer.specs.Standing.{binding_of}
 use Rattle.pcef_session.specs.Preparing.{Activates}
 use Rattle.pcef_session.specs.private.Changes.{IsBoundTo, IsRebound, active_after, entered_by, rule_key}
-use Rattle.pcef_active.specs.ByName.{Kept, put_kept}
+use Rattle.pcef_active.specs.ByName.{NamedSource, put_kept}
 use Rattle.pcef_model.specs.Lawful.{Lawful, by_command}
 use Rattle.pcef_model.specs.Refusals.{first_of, is_active, refusals}
 use Rattle.pcef_session.specs.Shown.{Shows}
@@ -86,7 +86,7 @@ bound_left p j c none bound =
       | inr isnt ↦ ap (with_rules (binding_of p (now p j))) (unbound_other c (binding_of p (now p j)).bound isnt) ∙ ap (binding_of p) (sym (now_after_other p j c isnt))
     ]
 
-kept_after : (p : Setting) (j : Journal) (c : Command) (x : Option Activation) (bound : Binding) (kept : List Kept) → Activates p (activated p c) x → bound ≡ binding_of p (now p (entry.Command c ∷ j)) →
+kept_after : (p : Setting) (j : Journal) (c : Command) (x : Option Activation) (bound : Binding) (kept : List NamedSource) → Activates p (activated p c) x → bound ≡ binding_of p (now p (entry.Command c ∷ j)) →
     AreKept p.catalog kept (now p j).rules → AreKept p.catalog (active_after x c bound kept) (rules_after p (now p j) c)
 kept_after p j c None bound kept brings bound_is are =
     let g = now p (entry.Command c ∷ j) in
@@ -235,7 +235,7 @@ agrees_commanded p j c x old new bearer agrees is =
     record {
       lawful = by_command j c agrees.lawful is.accepted is.changing;
       rules_are = subst (λ (rules : List Active). AreKept p.catalog new.rules rules) (sym (rules_then p j c))
-          (subst (λ (kept : List Kept). AreKept p.catalog kept (rules_after p (now p j) c)) (sym is.rules_are) (kept_after p j c x new.binding old.rules is.brings (rebound_now p j c x old new bearer agrees is).0 agrees.rules_are));
+          (subst (λ (kept : List NamedSource). AreKept p.catalog kept (rules_after p (now p j) c)) (sym is.rules_are) (kept_after p j c x new.binding old.rules is.brings (rebound_now p j c x old new bearer agrees is).0 agrees.rules_are));
       binding_is = (rebound_now p j c x old new bearer agrees is).0 ∙ ap (binding_of p) (sym (now_after p j c));
       keys_are = ap keys_of keys ∙ ended.keys_are ∙ ap (slots p) journal;
       usage_is = subst (AllByRecursion (KeyAgrees p after)) (sym keys)
@@ -262,7 +262,7 @@ commands_after p j c =
     commands_told p (thresholds p (with_reports p (plan p j c) (entry.Command c ∷ j))) (with_reports p (plan p j c) (entry.Command c ∷ j)) ∙ commands_told p (plan p j c) (entry.Command c ∷ j)
 
 pub few_keys_after : (p : Setting) (j : Journal) (c : Command) (keys : List KeyState) (states : List KeyState) → keys_of states ≡ slots p j → keys_of keys ≡ slots p (after_command p j c) →
-    finds_no_slot (key_named p c) states ≡ false → length states ≤ 8 → length keys ≤ 8
+    finds_no_place (key_named p c) states ≡ false → length states ≤ 8 → length keys ≤ 8
 few_keys_after p j c keys states before after finds few =
     let entered_keys = keys_entered p j c states before in
     let same : length (keys_of keys) ≡ length (keys_of (entered p c states)) = ap length (after ∙ slots_after p j c ∙ sym entered_keys) in

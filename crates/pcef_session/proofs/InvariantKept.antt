@@ -7,7 +7,7 @@ use Rattle.pcef_model.specs.Journals.{attached}
 use Rattle.pcef_model.specs.Refusals.{attach_faults, is_attached, is_close, is_terminate}
 use Rattle.pcef_model.proofs.NewLanes.{new_lane}
 use Rattle.pcef_model.proofs.JournalExtends.{attached_after_command}
-use Rattle.pcef_lane.specs.Lanes.{LanesAgree, at_start, left}
+use Rattle.pcef_lane.specs.Lanes.{LanesAgree, just_attached, left}
 use Rattle.pcef_lane.proofs.LaneEnds.{attached_came, lanes_come, lanes_first, lanes_leave}
 use Rattle.pcef_session.specs.private.Soundness.{ends_met}
 use Rattle.pcef_session.proofs.EndsMet.{ends_commanded, ends_first, few_after}
@@ -21,7 +21,7 @@ use Rattle.pcef_rule.specs.declared.quantity.BearerId.{BearerId}
 use Rattle.pcef_model.specs.declared.command.Command.{Command}
 use Rattle.pcef_model.specs.declared.entry.Entry.TheVariants as entry
 use Rattle.pcef_model.specs.Reports.{after_command}
-use Rattle.pcef_usage.specs.Keys.{finds_no_slot as slotless, keys_of}
+use Rattle.pcef_usage.specs.Keys.{finds_no_place as slotless, keys_of}
 use Rattle.pcef_usage.proofs.Afterwards.{few_entered}
 use Rattle.pcef_session.specs.declared.prepared.Activation.{Activation}
 use Rattle.pcef_model.specs.Outcomes.{changes}
@@ -63,7 +63,7 @@ one_fewer n (m ∷ ns) is =
 -- a worker is attached
 pub sound_attached : (s t : Inside) (n : ℕ) → IsSound s → n ≡ attach_count s.counted.journal → first_of (attach_faults s.counted.journal) ≡ None → t.profile ≡ s.profile → t.listing ≡ s.listing →
     t.counted.journal ≡ entry.Attach n ∷ s.counted.journal → t.counted.states ≡ s.counted.states → t.active ≡ s.active → t.bearers ≡ s.bearers → t.newest ≡ s.newest → t.subscribed ≡ s.subscribed →
-    t.lanes ≡ s.lanes ++ at_start ∷ [] → t.closed ≡ s.closed → t.terminated ≡ s.terminated → suc (length (attached s.counted.journal)) ≤ t.counted.room → IsSound t
+    t.lanes ≡ s.lanes ++ just_attached ∷ [] → t.closed ≡ s.closed → t.terminated ≡ s.terminated → suc (length (attached s.counted.journal)) ≤ t.counted.room → IsSound t
 unfolding attached
 sound_attached s t n sound number accepted profile listing journal states active bearers table subscribed lanes closed terminated room =
     let p : Setting = setting_of s.profile s.listing in
@@ -75,7 +75,7 @@ sound_attached s t n sound number accepted profile listing journal states active
     let after : Agrees p (entry.Attach n ∷ j) (parts_of s) =
     subst (λ (k : Journal). Agrees p k (parts_of s)) (sym count) (agrees_attached p j (parts_of s) sound.agrees accepted) in
     let none : lane j n ≡ [] = subst (λ m. lane j m ≡ []) (sym number) (new_lane p j sound.agrees.lawful) in
-    let come : LanesAgree (entry.Attach n ∷ j) (s.lanes ++ at_start ∷ []) = lanes_come j n s.lanes number none sound.lanes in
+    let come : LanesAgree (entry.Attach n ∷ j) (s.lanes ++ just_attached ∷ []) = lanes_come j n s.lanes number none sound.lanes in
     record {
       agrees = rw (same, parts, journal) after;
       lanes = rw (journal, lanes) come;
@@ -94,7 +94,7 @@ sound_attached s t n sound number accepted profile listing journal states active
 -- a worker leaves
 pub sound_left : (s t : Inside) (n : ℕ) → IsSound s → is_attached s.counted.journal n ≡ true → t.profile ≡ s.profile → t.listing ≡ s.listing →
     t.counted.journal ≡ entry.Leave n ∷ s.counted.journal → t.counted.states ≡ s.counted.states → t.active ≡ s.active → t.bearers ≡ s.bearers → t.newest ≡ s.newest → t.subscribed ≡ s.subscribed →
-    t.lanes ≡ set s.lanes n (left (get_or s.lanes n at_start)) → t.closed ≡ s.closed → t.terminated ≡ s.terminated → s.counted.room ≤ t.counted.room + 1 → IsSound t
+    t.lanes ≡ set s.lanes n (left (get_or s.lanes n just_attached)) → t.closed ≡ s.closed → t.terminated ≡ s.terminated → s.counted.room ≤ t.counted.room + 1 → IsSound t
 unfolding attached
 sound_left s t n sound is profile listing journal states active bearers table subscribed lanes closed terminated room =
     let p : Setting = setting_of s.profile s.listing in
@@ -103,7 +103,7 @@ sound_left s t n sound is profile listing journal states active bearers table su
     let same : q ≡ p = rw (profile, listing) refl in
     let parts : parts_of t ≡ parts_of s = rw (states, active, bearers, table, subscribed) refl in
     let after : Agrees p (entry.Leave n ∷ j) (parts_of s) = agrees_left p j n (parts_of s) sound.agrees is in
-    let left_lanes : LanesAgree (entry.Leave n ∷ j) (set s.lanes n (left (get_or s.lanes n at_start))) =
+    let left_lanes : LanesAgree (entry.Leave n ∷ j) (set s.lanes n (left (get_or s.lanes n just_attached))) =
     lanes_leave j n s.lanes (attached_came j s.lanes n sound.lanes is) sound.lanes in
     let fewer : suc (length (filter (λ v. not (v == n)) (attached j))) ≤ length (attached j) = one_fewer n (attached j) is in
     record {

@@ -7,18 +7,18 @@ use Rattle.pcef_catalog.specs.declared.listing.Offer.{Offer}
 use Rattle.pcef_model.specs.Setting.{same_name}
 use Rattle.pcef_model.specs.ActiveRules.{Active, is_named, put}
 use Rattle.pcef_session.specs.Agreement.{AreKept}
-use Rattle.pcef_session.specs.Shown.{rule_of}
-use Rattle.pcef_active.specs.ByName.{Kept, is_kept_as, put_kept}
+use Rattle.pcef_session.specs.Shown.{entry_rule}
+use Rattle.pcef_active.specs.ByName.{NamedSource, is_kept_as, put_kept}
 
 -- as many are kept as there are
-pub kept_length : (offers : List Offer) (kept : List Kept) (rules : List Active) → AreKept offers kept rules → length kept ≡ length rules
+pub kept_length : (offers : List Offer) (kept : List NamedSource) (rules : List Active) → AreKept offers kept rules → length kept ≡ length rules
 kept_length offers [] [] are = refl
 kept_length offers [] (r ∷ rules) are = absurd are
 kept_length offers (e ∷ kept) [] are = absurd are
 kept_length offers (e ∷ kept) (r ∷ rules) are = ap suc (kept_length offers kept rules are.2)
 
 -- a rule becomes active
-pub kept_put : (offers : List Offer) (new : Active) (source : Source) (kept : List Kept) (rules : List Active) → rule_of offers source ≡ Some new → AreKept offers kept rules →
+pub kept_put : (offers : List Offer) (new : Active) (source : Source) (kept : List NamedSource) (rules : List Active) → entry_rule offers source ≡ Some new → AreKept offers kept rules →
     AreKept offers (put_kept (new.properties.name, source) kept) (put new rules)
 kept_put offers new source [] [] stands are = (refl, stands, tt)
 kept_put offers new source [] (r ∷ rules) stands are = absurd are
@@ -33,7 +33,7 @@ kept_put offers new source (e ∷ kept) (r ∷ rules) stands are =
     ]
 
 -- a name is kept where a rule has it
-pub kept_name : (offers : List Offer) (name : List ℕ) (kept : List Kept) (rules : List Active) → AreKept offers kept rules → list_any (is_kept_as name) kept ≡ list_any (is_named name) rules
+pub kept_name : (offers : List Offer) (name : List ℕ) (kept : List NamedSource) (rules : List Active) → AreKept offers kept rules → list_any (is_kept_as name) kept ≡ list_any (is_named name) rules
 kept_name offers name [] [] are = refl
 kept_name offers name [] (r ∷ rules) are = absurd are
 kept_name offers name (e ∷ kept) [] are = absurd are

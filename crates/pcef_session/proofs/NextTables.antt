@@ -16,7 +16,7 @@ use Rattle.pcef_table.specs.declared.entry.TableEntry.{TableEntry}
 use Rattle.pcef_table.specs.declared.entry.Source.{Source}
 use Rattle.pcef_table.specs.declared.entry.Source.TheVariants.{Dynamic, Predefined}
 use Rattle.pcef_catalog.specs.declared.listing.Offer.{Offer}
-use Rattle.pcef_table.specs.Sources.{IsKnown, name_of, rank_of}
+use Rattle.pcef_table.specs.Sources.{IsKnown, name_of, source_rank}
 use Rattle.pcef_table.specs.Tables.{GoesBefore, IsTable, TableValue, placed, with_counting, without_taken, is_taken, is_slot}
 use Rattle.pcef_lists.proofs.Foremost.{ordered_head, ordered_tail}
 use Rattle.pcef_table.proofs.Ordered.{apart, counting_is_table, placed_is_table, part_is_table}
@@ -39,14 +39,14 @@ use Rattle.pcef_model.proofs.Sameness.{same_name_is, same_name_not, same_name_of
 use Rattle.pcef_model.specs.declared.entry.Entry.TheVariants as entry
 use Rattle.pcef_model.specs.ActiveRules as rules
 use Rattle.pcef_usage.specs.declared.usage.KeyState.{KeyState}
-use Rattle.pcef_usage.specs.Keys.{finds_no_slot, has_slot, keys_of, place_of as place_in, state_at}
+use Rattle.pcef_usage.specs.Keys.{finds_no_place, has_slot, keys_of, slot_place as place_in, state_at}
 use Rattle.pcef_usage.specs.PendingReports.{AllCount, AllOn, Counts, OnIs}
 use Rattle.pcef_usage.proofs.Slots.{slot_of_on}
 use Rattle.pcef_usage.proofs.Tells.{all_same, has_slot_is}
 use Rattle.pcef_session.specs.private.Parts.{Held}
 use Rattle.pcef_session.specs.Agreement.{KeyAgrees}
 use Rattle.pcef_bearer.specs.Bindings.{Binding}
-use Rattle.pcef_bearer.specs.BindingSteps.{id_excluding, without as bound_without}
+use Rattle.pcef_bearer.specs.BindingSteps.{id_excluding, without_bound as bound_without}
 use Rattle.pcef_session.specs.declared.prepared.Activation.{Activation}
 use Rattle.pcef_bearer.specs.Standing.{binding_of}
 use Rattle.pcef_rule.specs.declared.quantity.BearerId.{BearerId}
@@ -54,7 +54,7 @@ use Rattle.pcef_session.specs.Preparing.{GetsBearer, IsActivationOf, IsBearerOf,
 use Rattle.pcef_model.specs.Changes.{MakesActive}
 use Rattle.pcef_session.specs.private.Keys.{entries_switched, flags_left, flags_switched, is_on, key_switched, level_switched, switches_on}
 use Rattle.pcef_model.specs.Refusals.{becoming_active, finds_no_slot as finds_none, first_of, refusals}
-use Rattle.pcef_session.specs.Shown.{Shows, ShowsSessionKeys, StandsFor, is_session_on, rule_of}
+use Rattle.pcef_session.specs.Shown.{Shows, ShowsSessionKeys, StandsFor, is_session_on, entry_rule}
 use Rattle.pcef_session.proofs.ShownSession.{monitored_rule, monitored_session, monitored_without, no_rule, same_session, session_ended, session_next, session_set, stays_on, stopped_rule, stopped_session}
 use Rattle.pcef_session.proofs.Refused.{slotless_is}
 use Rattle.pcef_usage.proofs.Levels.{level_at}
@@ -182,7 +182,7 @@ on_is p j states (Some k) keys all =
         none false = refl
 
 -- ---- the entry of a rule that becomes active
-pub stands_new : (p : Setting) (j : Journal) (c : Command) (r : Active) (e : TableEntry) (states : List KeyState) → MakesActive p c r → keys_of states ≡ slots p j → rule_of p.catalog e.source ≡ Some r →
+pub stands_new : (p : Setting) (j : Journal) (c : Command) (r : Active) (e : TableEntry) (states : List KeyState) → MakesActive p c r → keys_of states ≡ slots p j → entry_rule p.catalog e.source ≡ Some r →
     e.bearer.0 ≡ (next p (now p j) c).id_of r.properties.qos →
     option_map (λ (s : Slot). s.0) e.slot ≡ option_map (λ k. place_in k states) r.properties.key → IfSome e.slot (λ s. s.0 < most_keys) → e.counted ≡ counts_now (now p j).on r.properties.key →
     StandsFor p (entry.Command c ∷ j) (gen (entry.Command c ∷ j)) e r
@@ -197,7 +197,7 @@ stands_new p j c r e states makes keys source bearer slot low counted = record {
 }
 
 -- ---- one entry for each rule
-rank_at : (p : Setting) (j : Journal) (g : ℕ) (e : TableEntry) (r : Active) → StandsFor p j g e r → rank_of p.catalog e.source ≡ rules.rank_of r
+rank_at : (p : Setting) (j : Journal) (g : ℕ) (e : TableEntry) (r : Active) → StandsFor p j g e r → source_rank p.catalog e.source ≡ rules.rank_of r
 rank_at p j g e r stands = (rule_is p.catalog e.source r stands.rule_is).rank_is
 
 apart_names : (p : Setting) (j : Journal) (g : ℕ) (t : TableValue) (e f : TableEntry) → Shows p j g t → NamesOnce (at p j g).rules → Contains t.entries e → Contains t.entries f →
@@ -209,8 +209,8 @@ apart_names p j g t e f shows once e_there f_there before =
     let names : a.0.properties.name ≡ b.0.properties.name =
     sym (name_is p j g e a.0 a.2) ∙ same_name_is (name_of p.catalog e.source) (name_of p.catalog f.source) same ∙ name_is p j g f b.0 b.2 in
     let one : a.0 ≡ b.0 = once_is (at p j g).rules a.0 b.0 once a.1 b.1 names in
-    let ranks : rank_of p.catalog e.source ≡ rank_of p.catalog f.source = rank_at p j g e a.0 a.2 ∙ ap rules.rank_of one ∙ sym (rank_at p j g f b.0 b.2) in
-    not_before (rank_of p.catalog e.source) (rank_of p.catalog f.source) ranks before)
+    let ranks : source_rank p.catalog e.source ≡ source_rank p.catalog f.source = rank_at p j g e a.0 a.2 ∙ ap rules.rank_of one ∙ sym (rank_at p j g f b.0 b.2) in
+    not_before (source_rank p.catalog e.source) (source_rank p.catalog f.source) ranks before)
   where
     not_before : (x y : Rank) → x ≡ y → IsTrue (goes_before x y) → ⊥
     not_before x y is before =
@@ -317,7 +317,7 @@ few_active : (v : Held) → IsSoundHeld v → length (now v.setting v.journal).r
 few_active v sound = omega (arith, sound.few_rules, kept_length v.setting.catalog v.parts.rules (now v.setting v.journal).rules sound.agrees.rules_are)
 
 -- a key that has a slot or finds one has one of eight
-few_places : (v : Held) (key : List ℕ) (slot : Slot) → IsSoundHeld v → finds_no_slot (Some key) v.parts.keys ≡ false → slot.0 ≡ place_in key v.parts.keys → slot.0 < 8
+few_places : (v : Held) (key : List ℕ) (slot : Slot) → IsSoundHeld v → finds_no_place (Some key) v.parts.keys ≡ false → slot.0 ≡ place_in key v.parts.keys → slot.0 < 8
 few_places v key slot sound finds slot_is =
     elim (cases_Bool (has_slot key v.parts.keys)) [
       | inl there ↦
@@ -346,7 +346,7 @@ entry_stands v c r x e sound accepted makes is_of is =
     let bound : id_excluding (binding_of p g).default_qos (binding_of p g).bound (bound_without r.properties.name (binding_of p g).bound) r.properties.qos ≡ Some e.bearer.0 =
     subst (λ (q : Properties). id_excluding (binding_of p g).default_qos (binding_of p g).bound (bound_without q.name (binding_of p g).bound) q.qos ≡ Some e.bearer.0) same
     (subst (λ (b : Binding). id_excluding b.default_qos b.bound (bound_without x.properties.name b.bound) x.properties.qos ≡ Some e.bearer.0) sound.agrees.binding_is is.bearer_is) in
-    stands_new p v.journal c r e v.parts.keys makes sound.agrees.keys_are (ap (rule_of p.catalog) is.source_is ∙ is_of.rule_is)
+    stands_new p v.journal c r e v.parts.keys makes sound.agrees.keys_are (ap (entry_rule p.catalog) is.source_is ∙ is_of.rule_is)
     (sym (next_id p g c r e.bearer.0 makes (lawful_bound p v.journal sound.agrees.lawful) bound))
     (is.slot_is ∙ ap (λ (q : Properties). option_map (λ k. place_in k v.parts.keys) q.key) same)
     (low_slot v r.properties.key e.slot sound (can_become v.setting v.journal r.properties accepted).slot (is.slot_is ∙ ap (λ (q : Properties). option_map (λ k. place_in k v.parts.keys) q.key) same))
@@ -385,7 +385,7 @@ session_put v c r sound makes becomes =
     from Terminate is = refl
 
 -- the place of a rule is in the catalog
-known_of : (offers : List Offer) (source : Source) (r : Active) → rule_of offers source ≡ Some r → IsKnown offers source
+known_of : (offers : List Offer) (source : Source) (r : Active) → entry_rule offers source ≡ Some r → IsKnown offers source
 known_of offers (Dynamic d) r is = tt
 known_of offers (Predefined index) r is = from (slice_get offers index) refl is
   where
@@ -394,7 +394,7 @@ known_of offers (Predefined index) r is = from (slice_get offers index) refl is
     from (Some o) there is = slice_get_within offers index o there
 
 pub entry_known : (v : Held) (r : Active) (x : Activation) (e : TableEntry) → IsActivationOf v.setting r x → IsEntryOf v.parts.binding v.parts.keys x e → IsKnown v.setting.catalog e.source
-entry_known v r x e is_of is = known_of v.setting.catalog e.source r (ap (rule_of v.setting.catalog) is.source_is ∙ is_of.rule_is)
+entry_known v r x e is_of is = known_of v.setting.catalog e.source r (ap (entry_rule v.setting.catalog) is.source_is ∙ is_of.rule_is)
 
 -- the table with the rule that a command makes active has room for it
 pub room_for_rule : (v : Held) (c : Command) (r : Active) (x : Activation) (e : TableEntry) → IsSoundHeld v → first_of (becoming_active v.setting v.journal r.properties) ≡ None → MakesActive v.setting c r → activated v.setting c ≡ Some r →
@@ -466,7 +466,7 @@ pub switched_slot : (v : Held) (c : Command) (key : List ℕ) (slot : Slot) → 
     slot.0 < 8
 switched_slot v (Monitor k amount level) key slot sound accepted switched slot_is =
     let same : k ≡ key = cc in
-    let finds : finds_no_slot (Some k) v.parts.keys ≡ false =
+    let finds : finds_no_place (Some k) v.parts.keys ≡ false =
     slotless_is v.setting v.journal (Some k) v.parts.keys sound.agrees.keys_are ∙ (monitor_accepted v.setting v.journal k amount level accepted).1 in
     few_places v k slot sound finds (slot_is ∙ ap (λ x. place_in x v.parts.keys) (sym same))
 switched_slot v (Stop k) key slot sound accepted switched slot_is =

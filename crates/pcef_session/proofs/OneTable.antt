@@ -6,7 +6,7 @@ use Rattle.pcef_catalog.specs.declared.listing.Offer.{Offer}
 use Rattle.pcef_lists.proofs.Foremost.{ordered_head, ordered_tail}
 use Rattle.pcef_lists.proofs.Tests.{contrary}
 use Rattle.pcef_table.specs.declared.entry.TableEntry.{TableEntry}
-use Rattle.pcef_table.specs.Sources.{name_of, rank_of}
+use Rattle.pcef_table.specs.Sources.{name_of, source_rank}
 use Rattle.pcef_table.specs.Tables.{GoesBefore, TableValue}
 use Rattle.pcef_table.proofs.Ordered.{apart}
 use Rattle.pcef_model.specs.Setting.{Setting}
@@ -17,7 +17,7 @@ use Rattle.pcef_session.proofs.ShownChanges.{rank_name}
 use Rattle.pcef_session.proofs.ShownVerdicts.{rule_is}
 
 abbrev rank : List Offer → TableEntry → Rank
-rank offers e = rank_of offers e.source
+rank offers e = source_rank offers e.source
 
 -- some entry has this rank
 abbrev Has : List Offer → List TableEntry → Rank → Type 0

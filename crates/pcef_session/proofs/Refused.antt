@@ -14,7 +14,7 @@ use Rattle.pcef_model.specs.ActiveRules.{predefined, without}
 use Rattle.pcef_model.specs.Entries.{Journal, commands}
 use Rattle.pcef_model.specs.Journals.{now, slots}
 use Rattle.pcef_usage.specs.declared.usage.KeyState.{KeyState}
-use Rattle.pcef_usage.specs.Keys.{finds_no_slot as slotless, keys_of}
+use Rattle.pcef_usage.specs.Keys.{finds_no_place as slotless, keys_of}
 use Rattle.pcef_usage.proofs.Monitors.{finds_no_slot_is}
 use Rattle.pcef_model.specs.declared.answer.Refusal.{Refusal}
 use Rattle.pcef_model.specs.declared.answer.Refusal.TheVariants.{RulesFull, KeysFull, LevelClash, NameIsPredefined, UnknownRule}

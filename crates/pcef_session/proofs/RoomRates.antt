@@ -21,8 +21,8 @@ use Rattle.pcef_model.specs.Refusals.{first_of, is_active, over_room, refusals, 
 use Rattle.pcef_model.specs.Setting.{Setting, offer_named}
 use Rattle.pcef_model.specs.Laws.{IsInRoom}
 use Rattle.pcef_model.proofs.Rooms.{accepted_within, total_fits, total_put}
-use Rattle.pcef_bearer.specs.Bindings.{total_down as bound_down, total_up as bound_up}
-use Rattle.pcef_bearer.specs.BindingSteps.{total_with, total as bound_total, without as bound_without}
+use Rattle.pcef_bearer.specs.Bindings.{bound_down, bound_up}
+use Rattle.pcef_bearer.specs.BindingSteps.{total_with, bound_total, without_bound as bound_without}
 use Rattle.pcef_bearer.specs.Standing.{binding_of, bound_of}
 use Rattle.pcef_bearer.proofs.BoundBearers.{total_down_bound, total_up_bound, without_bound}
 use Rattle.pcef_session.specs.declared.prepared.Activation.{Activation}

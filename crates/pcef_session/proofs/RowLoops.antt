@@ -3,7 +3,7 @@ use Rattle.std.proofs.Common.{◌-◌, [], None, Some, length, set, suc, arith}
 use Rattle.std.specs.Prelude.{slice_get}
 use Rattle.std.proofs.lemmas.List.{length-map}
 use Rattle.pcef_lane.specs.declared.lanes.LaneEnd.{LaneEnd}
-use Rattle.pcef_lane.specs.Lanes.{at_start, last_generation, lengthened}
+use Rattle.pcef_lane.specs.Lanes.{just_attached, last_generation, lengthened}
 use Rattle.pcef_session.specs.private.TakenRows.{with_lane}
 use Rattle.std.proofs.Common.{◌≡◌, ◌∙◌, ◌≤◌, ◌<◌, ◌+◌, ℕ, List, ◌∷◌, length, sym, ap, subst, drop, get_or}
 use Rattle.std.proofs.lemmas.List.{drop_all, drop_more}
@@ -75,11 +75,11 @@ last_is : (items : List Item) (item newest : Item) → Some newest ≡ slice_get
 last_is [] item newest is = let same : newest ≡ item = cc in ap (λ (i : Item). i.row.generation) (sym same)
 last_is (i ∷ items) item newest is = last_is items i newest is
 
-pub lane_grown : (worker : ℕ) (items : List Item) (newest : Item) (lanes new : List LaneEnd) → new ≡ set lanes worker (lengthened (length items) newest.row.generation (get_or lanes worker at_start)) →
+pub lane_grown : (worker : ℕ) (items : List Item) (newest : Item) (lanes new : List LaneEnd) → new ≡ set lanes worker (lengthened (length items) newest.row.generation (get_or lanes worker just_attached)) →
     slice_get items (length items - 1) ≡ Some newest → new ≡ with_lane worker (map row_of items) lanes
 lane_grown worker [] newest lanes new is last = absurd (let none : None ≡ Some newest = last in cc)
 lane_grown worker (i ∷ items) newest lanes new is last =
     let one_less : suc (length items) - 1 ≡ length items = omega arith in
     let there : Some newest ≡ slice_get (i ∷ items) (length items) = sym (sym (ap (slice_get (i ∷ items)) one_less) ∙ last) in
-    is ∙ ap (λ g. set lanes worker (lengthened (suc (length items)) g (get_or lanes worker at_start))) (sym (last_is items i newest there))
-    ∙ ap (λ n. set lanes worker (lengthened n (last_generation i.row.generation (map row_of items)) (get_or lanes worker at_start))) (ap suc (sym (length-map items row_of)))
+    is ∙ ap (λ g. set lanes worker (lengthened (suc (length items)) g (get_or lanes worker just_attached))) (sym (last_is items i newest there))
+    ∙ ap (λ n. set lanes worker (lengthened n (last_generation i.row.generation (map row_of items)) (get_or lanes worker just_attached))) (ap suc (sym (length-map items row_of)))

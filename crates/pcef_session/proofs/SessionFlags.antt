@@ -7,7 +7,7 @@ use Rattle.std.proofs.lemmas.Bool.{cases_Bool, eq-eqb, eqb-true, false_from_ne_t
 use Rattle.std.proofs.lemmas.List.{get_or-set_other, get_or-set_same}
 use Rattle.pcef_lists.proofs.Tests.{contrary}
 use Rattle.pcef_rule.specs.declared.quantity.Slot.{Slot}
-use Rattle.pcef_table.specs.SessionSlots.{slots_from, slots_up, with_slot}
+use Rattle.pcef_table.specs.SessionSlots.{slots_from, slots_up, with_flag_up}
 use Rattle.pcef_model.specs.Slots.{AreSlotsBelow, is_one_of, place_of}
 use Rattle.pcef_model.proofs.SlotWords.{IsWithin, has_one_of, is_at}
 
@@ -94,7 +94,7 @@ flag_set flags n m b within =
 
 -- with one slot more up, the keys of the slots are one more
 pub with_up : (keys : List (List ℕ)) (flags : List Bool) (o : Option Slot) (key : List ℕ) → ((s : Slot) → o ≡ Some s → s.0 < length flags) →
-    has_one_of keys (slots_up (with_slot o flags)) key ≡ (has_one_of keys (slots_up flags) key || has_one_of keys (option_to_list o) key)
+    has_one_of keys (slots_up (with_flag_up o flags)) key ≡ (has_one_of keys (slots_up flags) key || has_one_of keys (option_to_list o) key)
 with_up keys flags None key within = sym (no_or (has_one_of keys (slots_up flags) key))
 with_up keys flags (Some s) key within = from (place_of key keys) refl
   where
@@ -116,7 +116,7 @@ with_up keys flags (Some s) key within = from (place_of key keys) refl
 
 -- and they stay slots of keys
 pub with_up_within : (keys : List (List ℕ)) (flags : List Bool) (o : Option Slot) → ((s : Slot) → o ≡ Some s → (s.0 < length flags) × (s.0 < length keys)) →
-    IsWithin keys (slots_up flags) → IsWithin keys (slots_up (with_slot o flags))
+    IsWithin keys (slots_up flags) → IsWithin keys (slots_up (with_flag_up o flags))
 with_up_within keys flags None within old = old
 with_up_within keys flags (Some s) within old =
     within_up keys (set flags s.0 true) (λ m is.

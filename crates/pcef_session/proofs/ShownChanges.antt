@@ -13,8 +13,8 @@ use Rattle.pcef_rule.specs.Precedence.{rank_by}
 use Rattle.pcef_rule.proofs.OrderOfRules.{one_goes_first}
 use Rattle.pcef_table.specs.declared.entry.TableEntry.{TableEntry}
 use Rattle.pcef_catalog.specs.declared.listing.Offer.{Offer}
-use Rattle.pcef_table.specs.Sources.{name_of, no_rank, origin_of, properties_of, rank_of}
-use Rattle.pcef_table.specs.Tables.{IsTable, TableValue, has_other_name, is_before, is_behind, is_slot, placed, with_counting, without}
+use Rattle.pcef_table.specs.Sources.{name_of, no_rank, source_origin, properties_of, source_rank}
+use Rattle.pcef_table.specs.Tables.{IsTable, TableValue, has_other_name, goes_ahead, is_behind, is_slot, placed, with_counting, without_entry}
 use Rattle.pcef_model.specs.declared.entry.Entry.TheVariants as entry
 use Rattle.pcef_model.specs.declared.command.Command.{Command}
 use Rattle.pcef_model.specs.declared.command.Command.TheVariants.{Monitor, Stop}
@@ -33,7 +33,7 @@ use Rattle.pcef_model.specs.declared.entry.Entry.TheVariants as entry
 use Rattle.pcef_usage.proofs.Gone.{among_filter}
 use Rattle.pcef_usage.proofs.Slots.{is_among_add}
 use Rattle.pcef_model.specs.Changes.{MakesActive}
-use Rattle.pcef_session.specs.Shown.{Shows, ShowsSessionKeys, StandsFor, rule_of}
+use Rattle.pcef_session.specs.Shown.{Shows, ShowsSessionKeys, StandsFor, entry_rule}
 use Rattle.pcef_model.specs.Slots.{counts_now, place_of, slot_of}
 use Rattle.pcef_model.specs.Lawful.{Lawful}
 use Rattle.pcef_model.proofs.BearerIds.{lawful_bound}
@@ -145,18 +145,18 @@ pub name_is : (p : Setting) (j : Journal) (g : ℕ) (e : TableEntry) (r : Active
 name_is p j g e r stands = ap (λ o. option_map_or (λ q. q.name) o []) (rule_is p.catalog e.source r stands.rule_is).properties_are
 
 -- ---- a rule that becomes active
-pub rank_name : (offers : List Offer) (e : TableEntry) → (rank_of offers e.source).name ≡ name_of offers e.source
+pub rank_name : (offers : List Offer) (e : TableEntry) → (source_rank offers e.source).name ≡ name_of offers e.source
 rank_name offers e = from (properties_of offers e.source)
   where
-    from : (o : Option Properties) → (option_map_or (rank_by (origin_of e.source)) o no_rank).name ≡ option_map_or (λ q. q.name) o []
+    from : (o : Option Properties) → (option_map_or (rank_by (source_origin e.source)) o no_rank).name ≡ option_map_or (λ q. q.name) o []
     from None = refl
     from (Some q) = refl
 
 -- an entry of another name stands before the new one or behind it
 side_of : (offers : List Offer) (x e : TableEntry) → has_other_name offers (name_of offers x.source) e ≡ true →
-    (is_before offers x e ≡ true) ⊎ (is_behind offers x e ≡ true)
+    (goes_ahead offers x e ≡ true) ⊎ (is_behind offers x e ≡ true)
 side_of offers x e other =
-    elim (one_goes_first (rank_of offers e.source) (rank_of offers x.source) (λ same.
+    elim (one_goes_first (source_rank offers e.source) (source_rank offers x.source) (λ same.
     contrary (has_other_name offers (name_of offers x.source) e) other
     (not_from_true (same_name (name_of offers e.source) (name_of offers x.source))
     (same_name_of (name_of offers e.source) (name_of offers x.source) (sym (rank_name offers e) ∙ same ∙ rank_name offers x))))) [
@@ -166,30 +166,30 @@ side_of offers x e other =
 
 placed_new : (offers : List Offer) (x : TableEntry) (entries : List TableEntry) → Contains (placed offers x entries) x
 placed_new offers x entries =
-    let others = without offers (name_of offers x.source) entries in
-    Contains-append_right (filter (is_before offers x) others) (x ∷ filter (is_behind offers x) others) x (first_there x (filter (is_behind offers x) others))
+    let others = without_entry offers (name_of offers x.source) entries in
+    Contains-append_right (filter (goes_ahead offers x) others) (x ∷ filter (is_behind offers x) others) x (first_there x (filter (is_behind offers x) others))
 
 placed_old : (offers : List Offer) (x : TableEntry) (entries : List TableEntry) (e : TableEntry) → Contains entries e → has_other_name offers (name_of offers x.source) e ≡ true →
     Contains (placed offers x entries) e
 placed_old offers x entries e there other =
-    let others = without offers (name_of offers x.source) entries in
+    let others = without_entry offers (name_of offers x.source) entries in
     let stays : Contains others e = filter_to (has_other_name offers (name_of offers x.source)) entries e there other in
     elim (side_of offers x e other) [
       | inl before ↦
-          Contains-append_left (filter (is_before offers x) others) (x ∷ filter (is_behind offers x) others) e (filter_to (is_before offers x) others e stays before)
+          Contains-append_left (filter (goes_ahead offers x) others) (x ∷ filter (is_behind offers x) others) e (filter_to (goes_ahead offers x) others e stays before)
       | inr behind ↦
-          Contains-append_right (filter (is_before offers x) others) (x ∷ filter (is_behind offers x) others) e
+          Contains-append_right (filter (goes_ahead offers x) others) (x ∷ filter (is_behind offers x) others) e
           (later_there x (filter (is_behind offers x) others) e (filter_to (is_behind offers x) others e stays behind))
     ]
 
 placed_cases : (offers : List Offer) (x : TableEntry) (entries : List TableEntry) (e : TableEntry) → Contains (placed offers x entries) e →
     (x ≡ e) ⊎ (Contains entries e × (has_other_name offers (name_of offers x.source) e ≡ true))
 placed_cases offers x entries e there =
-    let others = without offers (name_of offers x.source) entries in
+    let others = without_entry offers (name_of offers x.source) entries in
     let old : Contains others e → Contains entries e × (has_other_name offers (name_of offers x.source) e ≡ true) =
     λ stays. filter_from (has_other_name offers (name_of offers x.source)) entries e stays in
-    elim (Contains-append_cases (filter (is_before offers x) others) (x ∷ filter (is_behind offers x) others) e there) [
-      | inl before ↦ inr (old (filter_from (is_before offers x) others e before).0)
+    elim (Contains-append_cases (filter (goes_ahead offers x) others) (x ∷ filter (is_behind offers x) others) e there) [
+      | inl before ↦ inr (old (filter_from (goes_ahead offers x) others e before).0)
       | inr rest ↦ elim (there_cases x (filter (is_behind offers x) others) e rest) [
         | inl same ↦ inl same
         | inr behind ↦ inr (old (filter_from (is_behind offers x) others e behind).0)
@@ -328,7 +328,7 @@ shows_switched p j c slot b t number entries flags is stay turns fives shows num
     let back : (r : Active) → Contains (rules_after p (now p j) c) r → Contains (now p j).rules r = λ r there. subst (λ (rs : List Active). Contains rs r) stay there in
     let stands : (e : TableEntry) (r : Active) → Contains (rules_after p (now p j) c) r → StandsFor p j (gen j) e r → StandsFor p k (gen k) (with_counting slot b e) r =
     λ e r there stands. record {
-      rule_is = ap (rule_of p.catalog) (keeps_source slot b e) ∙ stands.rule_is;
+      rule_is = ap (entry_rule p.catalog) (keeps_source slot b e) ∙ stands.rule_is;
       bearer_is = ap (λ (x : BearerId). x.0) (keeps_bearer slot b e) ∙ bearer_next p j c e r is fives (back r there) stands;
       slot_is = ap (option_map (λ (s : Slot). s.0)) (keeps_slot slot b e) ∙ slot_next p j c e r is (back r there) stands;
       slot_low = subst (λ (o : Option Slot). IfSome o (λ s. s.0 < most_keys)) (sym (keeps_slot slot b e)) stands.slot_low;

@@ -10,7 +10,7 @@ use Rattle.pcef_rule.specs.Gate.{opens}
 use Rattle.pcef_table.specs.declared.entry.TableEntry.{TableEntry}
 use Rattle.pcef_model.specs.declared.verdict.Verdict.{Verdict}
 use Rattle.pcef_model.specs.declared.verdict.Verdict.TheVariants.{Stray, Unmatched, Gated, Passed}
-use Rattle.pcef_table.specs.Sources.{is_named}
+use Rattle.pcef_table.specs.Sources.{source_is_named}
 use Rattle.pcef_table.specs.Tables.{TableValue}
 use Rattle.pcef_table.specs.SessionSlots.{slots_counted}
 use Rattle.pcef_table.specs.Verdicts.{counted_slot, slot_for}
@@ -97,13 +97,13 @@ passed_is p g header r is =
 
 -- the entry of a rule's name stands for the rule
 entry_named : (p : Setting) (j : Journal) (g : ℕ) (t : TableValue) (r : Active) → Shows p j g t → NamesOnce (at p j g).rules → Contains (at p j g).rules r →
-    (e : TableEntry) × (find (λ e. is_named p.catalog r.properties.name e.source) t.entries ≡ Some e) × StandsFor p j g e r
+    (e : TableEntry) × (find (λ e. source_is_named p.catalog r.properties.name e.source) t.entries ≡ Some e) × StandsFor p j g e r
 entry_named p j g t r shows once there =
     let w = shows.each r there in
     let w_is = rule_is p.catalog w.0.source r w.2.rule_is in
-    let named : is_named p.catalog r.properties.name w.0.source ≡ true =
+    let named : source_is_named p.catalog r.properties.name w.0.source ≡ true =
     ap (λ o. same_name (option_map_or (λ q. q.name) o []) r.properties.name) w_is.properties_are ∙ same_name_of r.properties.name r.properties.name refl in
-    let f = find_some (λ (e : TableEntry). is_named p.catalog r.properties.name e.source) t.entries w.0 w.1 named in
+    let f = find_some (λ (e : TableEntry). source_is_named p.catalog r.properties.name e.source) t.entries w.0 w.1 named in
     let v = shows.only f.0 f.2 in
     let v_is = rule_is p.catalog f.0.source v.0 v.2.rule_is in
     let names : v.0.properties.name ≡ r.properties.name =
@@ -127,11 +127,11 @@ slot_below None true low s some = absurd cc
 slot_below (Some x) true low s some = let same : x ≡ s = cc in subst (λ (y : Slot). y.0 < most_keys) same low
 slot_below slot false low s some = absurd cc
 
-counted_within : (p : Setting) (j : Journal) (g : ℕ) (t : TableValue) (rule : List ℕ) (o : Option TableEntry) → Shows p j g t → find (λ e. is_named p.catalog rule e.source) t.entries ≡ o →
+counted_within : (p : Setting) (j : Journal) (g : ℕ) (t : TableValue) (rule : List ℕ) (o : Option TableEntry) → Shows p j g t → find (λ e. source_is_named p.catalog rule e.source) t.entries ≡ o →
     (s : Slot) → option_map_or counted_slot o None ≡ Some s → (s.0 < most_keys) × (s.0 < length (slots p j))
 counted_within p j g t rule None shows is s some = absurd cc
 counted_within p j g t rule (Some e) shows is s some =
-    let f = found_is_foremost (λ _ _. Unit {0}) (λ (x : TableEntry). is_named p.catalog rule x.source) t.entries e (λ i k d below within. tt) is in
+    let f = found_is_foremost (λ _ _. Unit {0}) (λ (x : TableEntry). source_is_named p.catalog rule x.source) t.entries e (λ i k d below within. tt) is in
     let r = shows.only e f.there in
     (slot_below e.slot e.counted r.2.slot_low s some, slotted (slots p j) e.slot r.0.properties.key e.counted r.2.slot_is s some)
 
@@ -158,14 +158,14 @@ shown_counts p j g t header v key shows once is = rw is (from (decision p (at p 
     from (passed r) decided =
         let there = passed_is p (at p j g) header r decided in
         let w = entry_named p j g t r shows once there in
-        let own : Option Slot = option_map_or counted_slot (find (λ (e : TableEntry). is_named p.catalog r.properties.name e.source) t.entries) None in
+        let own : Option Slot = option_map_or counted_slot (find (λ (e : TableEntry). source_is_named p.catalog r.properties.name e.source) t.entries) None in
         let rule : (is_key key r.properties.key && is_among key (at p j g).on) ≡ has_one_of (slots p j) (option_to_list own) key =
         slot_counts (slots p j) (at p j g).on r.properties.key w.0.counted w.0.slot key w.2.counted_is w.2.slot_is (shown_slots p j g r there)
         ∙ ap (λ (o : Option TableEntry). has_one_of (slots p j) (option_to_list (option_map_or counted_slot o None)) key) (sym w.1) in
         joined (is_key key r.properties.key) (is_among key (at p j g).session) (is_among key (at p j g).on)
         ∙ ap₂ (λ a b. a || b) ((by_key p j g t.session shows.session).on_is key) rule
         ∙ sym (with_up (slots p j) t.session own key (λ s some.
-        let inside = counted_within p j g t r.properties.name (find (λ (e : TableEntry). is_named p.catalog r.properties.name e.source) t.entries) shows refl s some in
+        let inside = counted_within p j g t r.properties.name (find (λ (e : TableEntry). source_is_named p.catalog r.properties.name e.source) t.entries) shows refl s some in
         let eight = shows.session.eight in omega (arith, inside.0, eight)))
 
 -- and they are slots of keys
@@ -176,7 +176,7 @@ shown_within p j g t (Gated rule) shows = tt
 shown_within p j g t (Passed rule bearer) shows =
     with_up_within (slots p j) t.session (slot_for p.catalog t.entries (Passed rule bearer))
     (λ s some.
-    let inside = counted_within p j g t rule (find (λ (e : TableEntry). is_named p.catalog rule e.source) t.entries) shows refl s some in
+    let inside = counted_within p j g t rule (find (λ (e : TableEntry). source_is_named p.catalog rule e.source) t.entries) shows refl s some in
     let eight = shows.session.eight in (omega (arith, inside.0, eight), inside.1))
     (by_key p j g t.session shows.session).within
 

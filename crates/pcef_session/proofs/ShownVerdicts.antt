@@ -25,7 +25,7 @@ use Rattle.pcef_model.specs.ActiveRules.{Active, decisive, dynamic, fits, goes_a
 use Rattle.pcef_model.specs.Entries.{Journal}
 use Rattle.pcef_model.specs.Journals.{at, verdict_at}
 use Rattle.pcef_model.proofs.Sameness.{same_name_of}
-use Rattle.pcef_session.specs.Shown.{Shows, StandsFor, rule_of}
+use Rattle.pcef_session.specs.Shown.{Shows, StandsFor, entry_rule}
 use Rattle.pcef_model.proofs.BoundRules.{NamesOnce}
 use Rattle.pcef_lists.proofs.Found.{all_from, find_none, find_one}
 use Rattle.pcef_model.proofs.Decisive.{decisive_once}
@@ -33,8 +33,8 @@ use Rattle.pcef_model.proofs.Decisive.{decisive_once}
 -- ---- an entry and the rule that it stands for
 pub record IsRule (offers : List Offer) (s : Source) (r : Active) : Type 0 where
   pub properties_are : properties_of offers s ≡ Some r.properties
-  pub rank_is : sources.rank_of offers s ≡ rank_of r
-  pub fits_alike : (ue : Addr) (header : Header) → sources.fits offers ue header s ≡ fits ue header r
+  pub rank_is : sources.source_rank offers s ≡ rank_of r
+  pub fits_alike : (ue : Addr) (header : Header) → sources.source_fits offers ue header s ≡ fits ue header r
 
 some_is : {X : Type 0} (x y : X) → Some x ≡ Some y → x ≡ y
 some_is x y is = cc
@@ -48,7 +48,7 @@ offer_is offers index (Some o) r at_index is =
       fits_alike = λ ue header. rw at_index refl;
     })
 
-pub rule_is : (offers : List Offer) (s : Source) (r : Active) → rule_of offers s ≡ Some r → IsRule offers s r
+pub rule_is : (offers : List Offer) (s : Source) (r : Active) → entry_rule offers s ≡ Some r → IsRule offers s r
 rule_is offers (Dynamic rule) r is =
     rw (← some_is (dynamic rule) r is) (record { properties_are = refl; rank_is = refl; fits_alike = λ ue header. refl })
 rule_is offers (Predefined index) r is = offer_is offers index (slice_get offers index) r refl is
@@ -56,8 +56,8 @@ rule_is offers (Predefined index) r is = offer_is offers index (slice_get offers
 -- ---- the entry that decides, and its rule
 -- the rule of a decisive entry is the one that decides
 pub entry_decides : (p : Setting) (j : Journal) (g : ℕ) (t : TableValue) (header : Header) (e : TableEntry) (r : Active) → Shows p j g t → NamesOnce (at p j g).rules →
-    Contains (at p j g).rules r → StandsFor p j g e r → sources.fits p.catalog p.ue header e.source ≡ true →
-    All (λ f. sources.fits p.catalog p.ue header f.source ≡ true → (f ≡ e) ⊎ GoesBefore p.catalog e f) t.entries →
+    Contains (at p j g).rules r → StandsFor p j g e r → sources.source_fits p.catalog p.ue header e.source ≡ true →
+    All (λ f. sources.source_fits p.catalog p.ue header f.source ≡ true → (f ≡ e) ⊎ GoesBefore p.catalog e f) t.entries →
     decisive (at p j g).rules p.ue header ≡ Some r
 entry_decides p j g t header e r shows once there stands fitting first =
     let rules = (at p j g).rules in
@@ -69,10 +69,10 @@ entry_decides p j g t header e r shows once there stands fitting first =
       | inl hits ↦
           let w = shows.each s s_there in
           let f_is = rule_is p.catalog w.0.source s w.2.rule_is in
-          let f_fits : sources.fits p.catalog p.ue header w.0.source ≡ true = f_is.fits_alike p.ue header ∙ hits in
-          rw hits (elim (All-contains (λ f. sources.fits p.catalog p.ue header f.source ≡ true → (f ≡ e) ⊎ GoesBefore p.catalog e f) t.entries w.0 first w.1 f_fits) [
+          let f_fits : sources.source_fits p.catalog p.ue header w.0.source ≡ true = f_is.fits_alike p.ue header ∙ hits in
+          rw hits (elim (All-contains (λ f. sources.source_fits p.catalog p.ue header f.source ≡ true → (f ≡ e) ⊎ GoesBefore p.catalog e f) t.entries w.0 first w.1 f_fits) [
             | inl same ↦
-                let one : s ≡ r = some_is s r (sym w.2.rule_is ∙ ap (λ (x : TableEntry). rule_of p.catalog x.source) same ∙ stands.rule_is) in
+                let one : s ≡ r = some_is s r (sym w.2.rule_is ∙ ap (λ (x : TableEntry). entry_rule p.catalog x.source) same ∙ stands.rule_is) in
                 or_left (is_named r.properties.name s) (is_before r s) (same_name_of s.properties.name r.properties.name (ap (λ (x : Active). x.properties.name) one))
             | inr before ↦ or_right (is_named r.properties.name s) (is_before r s) (rw (e_is.rank_is, f_is.rank_is) at before)
           ])
@@ -83,13 +83,13 @@ entry_decides p j g t header e r shows once there stands fitting first =
 
 -- where no entry fits, no rule does
 none_decides : (p : Setting) (j : Journal) (g : ℕ) (t : TableValue) (header : Header) → Shows p j g t →
-    All (λ e. sources.fits p.catalog p.ue header e.source ≡ false) t.entries → decisive (at p j g).rules p.ue header ≡ None
+    All (λ e. sources.source_fits p.catalog p.ue header e.source ≡ false) t.entries → decisive (at p j g).rules p.ue header ≡ None
 none_decides p j g t header shows none =
     let rules = (at p j g).rules in
     find_none (is_decisive rules p.ue header) rules (λ r there.
     let w = shows.each r there in
     let misses : fits p.ue header r ≡ false =
-    sym ((rule_is p.catalog w.0.source r w.2.rule_is).fits_alike p.ue header) ∙ All-contains (λ e. sources.fits p.catalog p.ue header e.source ≡ false) t.entries w.0 none w.1 in
+    sym ((rule_is p.catalog w.0.source r w.2.rule_is).fits_alike p.ue header) ∙ All-contains (λ e. sources.source_fits p.catalog p.ue header e.source ≡ false) t.entries w.0 none w.1 in
     rw misses refl)
 
 -- ---- verdicts

@@ -11,7 +11,7 @@ use Rattle.pcef_model.specs.declared.command.Command.TheVariants.{Install, Activ
 use Rattle.pcef_model.specs.declared.entry.Entry.TheVariants as entry
 use Rattle.pcef_model.specs.Setting.{Setting, same_name}
 use Rattle.pcef_model.specs.ActiveRules.{is_named as rule_named}
-use Rattle.pcef_bearer.specs.Bindings.{is_named}
+use Rattle.pcef_bearer.specs.Bindings.{is_bound_as}
 use Rattle.pcef_model.specs.ActiveRules.{Active}
 use Rattle.pcef_model.specs.Generations.{Generation, next, rules_after, stays}
 use Rattle.pcef_model.specs.Commands.{switched, is_table, activated, takes_away}
@@ -27,7 +27,7 @@ use Rattle.pcef_session.proofs.ShownChanges.{Fives, each_now, name_is, only_now,
 use Rattle.pcef_model.proofs.BoundRules.{NamesOnce}
 use Rattle.pcef_session.specs.Agreement.{AreKept}
 use Rattle.pcef_model.proofs.RulesAfter.{filter_all, rules_left}
-use Rattle.pcef_active.specs.ByName.{Kept, is_still_bound, without_kept}
+use Rattle.pcef_active.specs.ByName.{NamedSource, is_still_bound, without_kept}
 use Rattle.pcef_session.specs.private.Changes.{still_active}
 use Rattle.pcef_session.proofs.Tests.{same_test, any_there}
 use Rattle.pcef_model.proofs.Decisive.{once_is}
@@ -97,7 +97,7 @@ named_stays test rules r once there =
     ap test (sym same) ∙ old.1)
     (λ is. any_from (rule_named r.properties.name) (filter test rules) r (filter_to test rules r there is) (same_name_of r.properties.name r.properties.name refl))
 
-kept_part : (offers : List Offer) (test : Active → Bool) (named : List ℕ → Bool) (kept : List Kept) (rules : List Active) →
+kept_part : (offers : List Offer) (test : Active → Bool) (named : List ℕ → Bool) (kept : List NamedSource) (rules : List Active) →
     ((r : Active) → Contains rules r → named r.properties.name ≡ test r) → AreKept offers kept rules → AreKept offers (filter (λ e. named e.0) kept) (filter test rules)
 kept_part offers test named [] [] same are = tt
 kept_part offers test named [] (r ∷ rules) same are = absurd are
@@ -111,22 +111,22 @@ kept_part offers test named (e ∷ kept) (r ∷ rules) same are =
     ]
 
 -- after the loss of a bearer, those that are bound still
-kept_left : (p : Setting) (g : Generation) (c : Command) (bound : Binding) (kept : List Kept) → NamesOnce g.rules → activated p c ≡ None →
-    ((name : List ℕ) → list_any (is_named name) bound.bound ≡ list_any (rule_named name) (rules_after p g c)) → AreKept p.catalog kept g.rules →
+kept_left : (p : Setting) (g : Generation) (c : Command) (bound : Binding) (kept : List NamedSource) → NamesOnce g.rules → activated p c ≡ None →
+    ((name : List ℕ) → list_any (is_bound_as name) bound.bound ≡ list_any (rule_named name) (rules_after p g c)) → AreKept p.catalog kept g.rules →
     AreKept p.catalog (filter (is_still_bound bound) kept) (rules_after p g c)
 kept_left p g c bound kept once none named are =
     let left = rules_left p g c none in
     subst (AreKept p.catalog (filter (is_still_bound bound) kept)) (sym left)
-    (kept_part p.catalog (stays g c) (λ name. list_any (is_named name) bound.bound) kept g.rules
+    (kept_part p.catalog (stays g c) (λ name. list_any (is_bound_as name) bound.bound) kept g.rules
     (λ r there. named r.properties.name ∙ ap (list_any (rule_named r.properties.name)) left ∙ named_stays (stays g c) g.rules r once there) are)
 
 -- where all stay
-all_kept : (p : Setting) (g : Generation) (c : Command) (kept : List Kept) → activated p c ≡ None → stays g c ≡ (λ r. true) → AreKept p.catalog kept g.rules → AreKept p.catalog kept (rules_after p g c)
+all_kept : (p : Setting) (g : Generation) (c : Command) (kept : List NamedSource) → activated p c ≡ None → stays g c ≡ (λ r. true) → AreKept p.catalog kept g.rules → AreKept p.catalog kept (rules_after p g c)
 all_kept p g c kept none all are =
     subst (AreKept p.catalog kept) (sym (rules_left p g c none ∙ ap (λ (test : Active → Bool). filter test g.rules) all ∙ filter_all g.rules)) are
 
-pub still_kept : (p : Setting) (g : Generation) (c : Command) (bound : Binding) (kept : List Kept) → NamesOnce g.rules → activated p c ≡ None →
-    ((name : List ℕ) → list_any (is_named name) bound.bound ≡ list_any (rule_named name) (rules_after p g c)) → AreKept p.catalog kept g.rules →
+pub still_kept : (p : Setting) (g : Generation) (c : Command) (bound : Binding) (kept : List NamedSource) → NamesOnce g.rules → activated p c ≡ None →
+    ((name : List ℕ) → list_any (is_bound_as name) bound.bound ≡ list_any (rule_named name) (rules_after p g c)) → AreKept p.catalog kept g.rules →
     AreKept p.catalog (still_active c bound kept) (rules_after p g c)
 still_kept p g (Remove name) bound kept once none named are =
     subst (AreKept p.catalog (without_kept name kept)) (sym (rules_left p g (Remove name) none))

@@ -9,7 +9,7 @@ use Rattle.pcef_model.specs.Journals.{counted, grant, level_of, now, reported, s
 use Rattle.pcef_table.specs.declared.entry.Source.{Source}
 use Rattle.pcef_catalog.specs.declared.listing.Offer.{Offer}
 use Rattle.pcef_usage.specs.declared.usage.KeyState.{KeyState}
-use Rattle.pcef_session.specs.Shown.{rule_of}
+use Rattle.pcef_session.specs.Shown.{entry_rule}
 
 -- ---- rules
 -- these are the rules by name, in their order: a dynamic rule is kept itself, a predefined one by its
@@ -18,7 +18,7 @@ abbrev pub AreKept : List Offer → List (List ℕ × Source) → List Active �
 AreKept offers [] [] = Unit {0}
 AreKept offers [] (r ∷ rules) = ⊥
 AreKept offers (e ∷ kept) [] = ⊥
-AreKept offers (e ∷ kept) (r ∷ rules) = (e.0 ≡ r.properties.name) × (rule_of offers e.1 ≡ Some r) × AreKept offers kept rules
+AreKept offers (e ∷ kept) (r ∷ rules) = (e.0 ≡ r.properties.name) × (entry_rule offers e.1 ≡ Some r) × AreKept offers kept rules
 
 -- ---- keys (TS 29.212, clauses 4.5.16 and 4.5.17)
 -- what is kept of a key: its level, whether it is on, its grant, and its octets, which are those of the journal's rows

@@ -68,8 +68,8 @@ AnswersCommandWithin before command room result after = CommandStepWithin before
 
 -- ---- rows that are handed over
 -- the rows of these items may come next from a worker
-abbrev pub MayFollow : SessionModel → ℕ → List Item → Type 0
-MayFollow s worker items = BatchFollows s.setting s.journal worker (map row_of items)
+abbrev pub MayComeNext : SessionModel → ℕ → List Item → Type 0
+MayComeNext s worker items = BatchFollows s.setting s.journal worker (map row_of items)
 
 -- the answer to a flush, with the verdicts as a list
 abbrev pub flushed_of : Result Verdicts FlushRefusal → Result FlushAnswer FlushRefusal

@@ -1,7 +1,7 @@
 -- Laws of lawful journals, for whoever reads the definitions.
 use Rattle.std.specs.Prelude.{ℕ, ◌≡◌, ◌≤◌, true, List, ◌∷◌, Some, Contains}
 use Rattle.pcef_packet.specs.declared.header.Header.{Header}
-use Rattle.pcef_bearer.specs.Bindings.{bearer_of, guaranteed}
+use Rattle.pcef_bearer.specs.Bindings.{bearer_of_rule, guaranteed}
 use Rattle.pcef_model.specs.declared.verdict.Verdict.{Verdict}
 use Rattle.pcef_table.specs.Tables.{TableValue}
 use Rattle.pcef_table.specs.SessionSlots.{slots_counted}
@@ -40,7 +40,7 @@ ShownTablesCount = (p : Setting) (j : Journal) (g : ℕ) (t : TableValue) (heade
 -- each active rule stands on one bearer, that of its pair of QCI and ARP
 abbrev pub RulesStandOnTheirBearers : Type 0
 RulesStandOnTheirBearers = (p : Setting) (j : Journal) (r : Active) → Contains (now p j).rules r →
-    bearer_of r.properties.name (binding_of p (now p j)).bound ≡ Some (record { 0 = (now p j).id_of r.properties.qos })
+    bearer_of_rule r.properties.name (binding_of p (now p j)).bound ≡ Some (record { 0 = (now p j).id_of r.properties.qos })
 
 -- the bearer of a pair guarantees the exact sums of the rates of the active rules with that pair
 abbrev pub RatesAreSums : Type 0

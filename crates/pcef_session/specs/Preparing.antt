@@ -23,12 +23,12 @@ use Rattle.pcef_session.specs.declared.prepared.Prepared.{Prepared}
 use Rattle.pcef_session.specs.declared.prepared.Prepared.TheVariants.{Changing, Unchanged}
 use Rattle.pcef_session.specs.declared.prepared.PreparedChange.{PreparedChange}
 use Rattle.pcef_session.specs.SessionModel.{SessionModel}
-use Rattle.pcef_session.specs.Shown.{Shows, rule_of}
+use Rattle.pcef_session.specs.Shown.{Shows, entry_rule}
 
 -- what is prepared of a rule stands for it
 pub record IsActivationOf (p : Setting) (r : Active) (x : Activation) : Type 0 where
   pub properties_are : x.properties ≡ r.properties
-  pub rule_is : rule_of p.catalog x.source ≡ Some r
+  pub rule_is : entry_rule p.catalog x.source ≡ Some r
 
 -- a rule is prepared where the command makes one active, and it is that one
 abbrev pub Activates : Setting → Option Active → Option Activation → Type 0

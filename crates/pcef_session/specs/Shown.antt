@@ -15,13 +15,13 @@ use Rattle.pcef_model.specs.Journals.{at, slots}
 use Rattle.pcef_model.specs.Slots.{counts_now, slot_of}
 
 -- the rule of an entry
-abbrev pub rule_of : List Offer → Source → Option Active
-rule_of offers (Dynamic rule) = Some (dynamic rule)
-rule_of offers (Predefined index) = option_map predefined (slice_get offers index)
+abbrev pub entry_rule : List Offer → Source → Option Active
+entry_rule offers (Dynamic rule) = Some (dynamic rule)
+entry_rule offers (Predefined index) = option_map predefined (slice_get offers index)
 
 -- an entry that stands for a rule: its bearer, the slot of its key, which is one of eight, and whether the key is on
 pub record StandsFor (p : Setting) (j : Journal) (g : ℕ) (e : TableEntry) (r : Active) : Type 0 where
-  pub rule_is : rule_of p.catalog e.source ≡ Some r
+  pub rule_is : entry_rule p.catalog e.source ≡ Some r
   pub bearer_is : e.bearer.0 ≡ (at p j g).id_of r.properties.qos
   pub slot_is : option_map (λ s. s.0) e.slot ≡ slot_of (slots p j) r.properties.key
   pub slot_low : IfSome e.slot (λ s. s.0 < most_keys)

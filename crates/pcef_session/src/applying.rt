@@ -8,7 +8,7 @@ ghost use Rattle.pcef_model.specs.Refusals.{is_close, is_terminate};
 ghost use Rattle.pcef_session.specs.Preparing.{HasPlacesFor, IsBearerFor, IsBearerOf};
 ghost use Rattle.pcef_bearer.specs.BindingSteps as binding;
 ghost use Rattle.pcef_usage.specs.Commands.{subscribed_by};
-ghost use Rattle.pcef_usage.specs.Keys.{HasPlaceFor, finds_no_slot, keys_of};
+ghost use Rattle.pcef_usage.specs.Keys.{HasPlaceFor, finds_no_place, keys_of};
 ghost use Rattle.pcef_usage.specs.PendingReports.{KnowsAll};
 ghost use Rattle.pcef_session.specs.private.Changes.{Binds, CanBind, IsBoundTo, IsRebound, active_after, counters_after_reports, entered_by, journal_after_reports, key_of, still_active, rule_key};
 
@@ -58,7 +58,7 @@ fn enter_key(
     of_rule: Option<&KeyName>,
     places: KeyPlaces,
 )
-    requires slot { finds_no_slot (key_of (option_copied of_rule) command.now)
+    requires slot { finds_no_place (key_of (option_copied of_rule) command.now)
         counted.old.states ≡ false }
     requires places { HasPlaceFor (key_of (option_copied of_rule) command.now) places
         (keys_of counted.old.states) }
@@ -84,7 +84,7 @@ pub(crate) fn enter(
     of_rule: Option<KeyName>,
     places: KeyPlaces,
 )
-    requires slot { finds_no_slot (key_of of_rule command) counted.old.states ≡ false }
+    requires slot { finds_no_place (key_of of_rule command) counted.old.states ≡ false }
     requires places { HasPlaceFor (key_of of_rule command) places (keys_of counted.old.states) }
     requires room { 0 < counted.old.room }
     ensures journal { counted.new.journal ≡ Entry.Command command ∷ counted.old.journal }

@@ -3,7 +3,7 @@
 ghost use Rattle.std.specs.Prelude.{◌≡◌};
 ghost use Rattle.std.specs.List.{list_any};
 ghost use Rattle.std.specs.Option.{option_copied, option_map};
-ghost use Rattle.pcef_usage.specs.Keys.{place_of, state_at};
+ghost use Rattle.pcef_usage.specs.Keys.{slot_place, state_at};
 ghost use Rattle.pcef_session.specs.private.Keys.{is_on, is_on_there, key_switched, level_switched, switches_on};
 
 use pcef_model::{Command, Level};
@@ -12,7 +12,7 @@ use pcef_usage::{KeyState, Usage};
 
 /// The slot of a key, or the one that it gets next.
 pub(crate) fn place_of(usage: &Usage, key: &KeyName) -> Slot
-    ensures { result.0 ≡ place_of key.now usage.now }
+    ensures { result.0 ≡ slot_place key.now usage.now }
 {
     match usage.find(key) {
         Some(slot) => slot,
@@ -23,7 +23,7 @@ pub(crate) fn place_of(usage: &Usage, key: &KeyName) -> Slot
 /// The slot of a key, if there is one.
 pub(crate) fn slot_of(usage: &Usage, key: Option<&KeyName>) -> Option<Slot>
     ensures { option_map (λ s. s.0) result
-        ≡ option_map (λ k. place_of k usage.now) (option_copied key.entry) }
+        ≡ option_map (λ k. slot_place k usage.now) (option_copied key.entry) }
 {
     match key {
         Some(key) => Some(place_of(usage, key)),
@@ -85,7 +85,7 @@ pub(crate) fn level_switched(usage: &Usage, command: &Command, key: &KeyName) ->
 
 /// The level of a key that has a slot.
 pub(crate) fn level_of(usage: &Usage, key: &KeyName) -> Level
-    ensures { result ≡ (state_at (place_of key.now usage.now) usage.now).level }
+    ensures { result ≡ (state_at (slot_place key.now usage.now) usage.now).level }
 {
     match usage.find(key) {
         Some(slot) => usage.level(slot),

@@ -1,7 +1,7 @@
 //! Rows that are taken over.
 
 ghost use Rattle.std.specs.Prelude.{◌≡◌, ◌≤◌, ◌<◌, ◌+◌, ◌^◌, ◌∷◌, get_or, length, map, IfOk};
-ghost use Rattle.pcef_lane.specs.Lanes.{at_start};
+ghost use Rattle.pcef_lane.specs.Lanes.{just_attached};
 ghost use Rattle.pcef_model.specs.Reports.{with_rows};
 ghost use Rattle.pcef_model.specs.Outcomes.{judged_of};
 ghost use Rattle.pcef_session.specs.private.TakenRows.{CanCountAll, IsTaken, with_lane};
@@ -46,7 +46,7 @@ pub(crate) fn take_rows(counted: &mut CountedJournal, items: &[Item])
 /// A worker's lane grows by its rows. No rows change nothing.
 pub(crate) fn lengthen(lanes: &mut Lanes, worker: u8, items: &[Item])
     requires came { worker < length lanes.old }
-    requires fits { (get_or lanes.old worker at_start).rows + length items.now < 2 ^ 64 }
+    requires fits { (get_or lanes.old worker just_attached).rows + length items.now < 2 ^ 64 }
     ensures { lanes.new ≡ with_lane worker (map row_of items.now) lanes.old }
 {
     if let Some(newest) = items.last() {

@@ -5,7 +5,7 @@ use Rattle.std.proofs.lemmas.Bool.Decides.{nat_tests}
 use Rattle.std.proofs.lemmas.List.{length-take, take_all}
 use Rattle.pcef_model.specs.Setting.{Setting}
 use Rattle.pcef_script.specs.ScriptAnswers.{AnswersDue, DueWithin}
-use Rattle.pcef_script.specs.ScriptLines.{is_blank, is_too_long, line_most, within_limit}
+use Rattle.pcef_script.specs.ScriptLines.{is_blank_line, is_too_long, line_most, within_limit}
 use Rattle.pcef_sessions.specs.declared.asking.Asking.{Asking}
 use Rattle.pcef_sessions.specs.declared.asking.Asking.TheVariants as asking
 use Rattle.pcef_sessions.specs.Addressed.{addressed, at_space, for_session, is_session_name}
@@ -49,18 +49,18 @@ limit_same m r lt =
     let t = taken_by m r (is_too_long r) lt refl in
     limit_by m r (is_too_long r) refl t.0 t.1
 
-blank_by : (m : ℕ) (r : List ℕ) (long : Bool) → is_too_long r ≡ long → is_too_long (take m r) ≡ is_too_long r → (is_too_long r ≡ false → take m r ≡ r) → is_blank (take m r) ≡ is_blank r
+blank_by : (m : ℕ) (r : List ℕ) (long : Bool) → is_too_long r ≡ long → is_too_long (take m r) ≡ is_too_long r → (is_too_long r ≡ false → take m r ≡ r) → is_blank_line (take m r) ≡ is_blank_line r
 blank_by m r true is same short =
     let also : is_too_long (take m r) ≡ true = same ∙ is in
     rw (also, is) refl
-blank_by m r false is same short = ap is_blank (short is)
+blank_by m r false is same short = ap is_blank_line (short is)
 
-blank_same : (m : ℕ) (r : List ℕ) → line_most < m → is_blank (take m r) ≡ is_blank r
+blank_same : (m : ℕ) (r : List ℕ) → line_most < m → is_blank_line (take m r) ≡ is_blank_line r
 blank_same m r lt =
     let t = taken_by m r (is_too_long r) lt refl in
     blank_by m r (is_too_long r) refl t.0 t.1
 
-pub blank_kept : (line : List ℕ) → is_blank (take most_kept line) ≡ is_blank line
+pub blank_kept : (line : List ℕ) → is_blank_line (take most_kept line) ≡ is_blank_line line
 blank_kept line = blank_same most_kept line (omega arith)
 
 -- ---- the first space
@@ -139,7 +139,7 @@ for_none : (k : ℕ) (test : Bool) (p : Halves) → is_session_name p.0 ≡ fals
 for_none k true p isnt = rw isnt refl
 for_none k false p isnt = rw isnt refl
 
-for_name : (p : Setting) (old new : List ℕ → Option Session) (name kept rest : List ℕ) (said : Said) (blank : Bool) → is_session_name name ≡ true → is_blank kept ≡ blank → is_blank rest ≡ blank → within_limit kept ≡ within_limit rest
+for_name : (p : Setting) (old new : List ℕ → Option Session) (name kept rest : List ℕ) (said : Said) (blank : Bool) → is_session_name name ≡ true → is_blank_line kept ≡ blank → is_blank_line rest ≡ blank → within_limit kept ≡ within_limit rest
     → SaysTo p old (for_session (name, kept)) said new → SaysTo p old (for_session (name, rest)) said new
 for_name p old new name kept rest said true is blank also same h =
     let own = rw (is, blank) at h in
@@ -159,7 +159,7 @@ by_name p old new halves said true is h =
     let kept = take (most_kept - suc (length halves.0)) halves.1 in
     let own : SaysTo p old (for_session (halves.0, kept)) said new =
     subst (λ t. SaysTo p old (option_and_then for_session (cut_if most_kept t halves)) said new) fits h in
-    for_name p old new halves.0 kept halves.1 said (is_blank halves.1) is (blank_same (most_kept - suc (length halves.0)) halves.1 room) refl
+    for_name p old new halves.0 kept halves.1 said (is_blank_line halves.1) is (blank_same (most_kept - suc (length halves.0)) halves.1 room) refl
     (limit_same (most_kept - suc (length halves.0)) halves.1 room) own
 
 by_space : (p : Setting) (old new : List ℕ → Option Session) (halves : Option Halves) (said : Said) → SaysTo p old (option_and_then for_session (cut_at most_kept halves)) said new

@@ -2,7 +2,7 @@
 use Rattle.std.proofs.Common.{◌≡◌, ◌∙◌, ℕ, zero, suc, ◌-◌, Bool, true, false, append-nil, List, [], ◌∷◌, ◌++◌, length, take, min, refl, sym, ap, arith}
 use Rattle.std.proofs.lemmas.List.{take_min}
 use Rattle.pcef_script.specs.ScriptAnswers.{answered}
-use Rattle.pcef_script.specs.ScriptLines.{is_blank}
+use Rattle.pcef_script.specs.ScriptLines.{is_blank_line}
 use Rattle.pcef_script.proofs.Answering.{answered_blank, answered_more, answered_one}
 use Rattle.pcef_sessions.specs.private.Running.{most_kept}
 use Rattle.pcef_sessions.proofs.Cutting.{blank_kept}
@@ -20,10 +20,10 @@ pub kept_more : (line bytes whole : List ℕ) (most : ℕ) → line ≡ take mos
 kept_more line bytes whole most is =
     ap (λ t. line ++ t) (take_min (most - length line) bytes) ∙ ap (λ t. t ++ take (most - length t) bytes) is ∙ take_on most whole bytes
 
-pub answered_kept : (lines : List (List ℕ)) (line kept : List ℕ) → kept ≡ take most_kept line → is_blank kept ≡ false → answered (lines ++ line ∷ []) ≡ answered lines ++ line ∷ []
+pub answered_kept : (lines : List (List ℕ)) (line kept : List ℕ) → kept ≡ take most_kept line → is_blank_line kept ≡ false → answered (lines ++ line ∷ []) ≡ answered lines ++ line ∷ []
 answered_kept lines line kept is filled =
-    answered_more lines (line ∷ []) ∙ ap (λ t. answered lines ++ t) (answered_one line (sym (blank_kept line) ∙ ap is_blank (sym is) ∙ filled))
+    answered_more lines (line ∷ []) ∙ ap (λ t. answered lines ++ t) (answered_one line (sym (blank_kept line) ∙ ap is_blank_line (sym is) ∙ filled))
 
-pub answered_kept_blank : (lines : List (List ℕ)) (line kept : List ℕ) → kept ≡ take most_kept line → is_blank kept ≡ true → answered (lines ++ line ∷ []) ≡ answered lines
+pub answered_kept_blank : (lines : List (List ℕ)) (line kept : List ℕ) → kept ≡ take most_kept line → is_blank_line kept ≡ true → answered (lines ++ line ∷ []) ≡ answered lines
 answered_kept_blank lines line kept is blank =
-    answered_more lines (line ∷ []) ∙ ap (λ t. answered lines ++ t) (answered_blank line (sym (blank_kept line) ∙ ap is_blank (sym is) ∙ blank)) ∙ append-nil (answered lines)
+    answered_more lines (line ∷ []) ∙ ap (λ t. answered lines ++ t) (answered_blank line (sym (blank_kept line) ∙ ap is_blank_line (sym is) ∙ blank)) ∙ append-nil (answered lines)

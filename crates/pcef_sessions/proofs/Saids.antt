@@ -8,7 +8,7 @@ use Rattle.std.proofs.lemmas.List.Elements.{All-append, All-cons, All-nil}
 use Rattle.std.proofs.lemmas.List.Folds.{list_any-append}
 use Rattle.std.proofs.lemmas.Slice.Eq.{bytes_eq-Decides}
 use Rattle.pcef_model.specs.Setting.{Setting}
-use Rattle.pcef_sessions.specs.Addressed.{addressed, lines_of, name_of, said_to}
+use Rattle.pcef_sessions.specs.Addressed.{addressed, lines_of, addressed_name, said_to}
 use Rattle.pcef_sessions.specs.Sayings.{Said, SaysTo, bad_name}
 use Rattle.pcef_sessions.specs.Served.{AreSaid, Under, all_bytes, any_fault, if_under, said_bytes, said_under}
 use Rattle.pcef_sessions.specs.Under.{Session, UnderName}
@@ -71,7 +71,7 @@ pub one_said : (p : Setting) (old new : List ℕ → Option Session) (lines : Li
     → AreSaid p (lines ++ line ∷ []) (saids ++ said ∷ []) new
 one_said p old new lines line saids said h says = record {
   names = map-append (λ (s : Said). s.name) saids (said ∷ []) ∙ ap (λ t. map (λ (s : Said). s.name) saids ++ t ∷ []) (named_so p old new (addressed line) said says)
-      ∙ ap (λ t. t ++ name_of line ∷ []) h.names ∙ sym (map-append name_of lines (line ∷ []));
+      ∙ ap (λ t. t ++ addressed_name line ∷ []) h.names ∙ sym (map-append addressed_name lines (line ∷ []));
   nameless = All-append HasBadName saids (said ∷ []) h.nameless (All-cons HasBadName said [] (nameless_so p old new (addressed line) said says) (All-nil HasBadName));
   each = λ name.
       subst (λ ls. Under p None ls (said_under name (saids ++ said ∷ [])) (new name)) (sym (lines_more name lines (line ∷ [])))

@@ -5,7 +5,7 @@ use Rattle.std.proofs.lemmas.List.Elements.{All-head, All-tail}
 use Rattle.pcef_packet.specs.declared.header.Addr.{Addr}
 use Rattle.pcef_model.specs.Setting.{Setting}
 use Rattle.pcef_world.specs.Steps.{Standing, at_start}
-use Rattle.pcef_script.specs.ScriptAnswers.{Answers, number_of}
+use Rattle.pcef_script.specs.ScriptAnswers.{Answers, fault_count}
 use Rattle.pcef_sessions.specs.declared.asking.Asking.{Asking}
 use Rattle.pcef_sessions.specs.declared.asking.Asking.TheVariants as asking
 use Rattle.pcef_sessions.specs.Asked.{asked_of}
@@ -29,7 +29,7 @@ renewed_script p s first lines saids after renews all h =
     let now : InSession s asking.Renew first h.0.text h.0.at_fault h.2 =
     subst (λ k. UnderBy p (Some s) k first h.0.text h.0.at_fault h.2) renews h.3 in
     let rest = open_script p (renewed s) lines h.1 after all (subst (λ o. Under p o lines h.1 after) now.2 h.4) in
-    let right : number_of h.0.at_fault ≡ 0 = ap number_of now.1 in (
+    let right : fault_count h.0.at_fault ≡ 0 = ap fault_count now.1 in (
       texts_of h.1,
       faults_of h.1,
       rest.0,
@@ -51,7 +51,7 @@ texts_last : (saids : List Said) (said : Said) → texts_of (saids ++ said ∷ [
 texts_last [] said = append-nil (said.text ++ 10 ∷ [])
 texts_last (s ∷ saids) said = ap (λ rest. (s.text ++ 10 ∷ []) ++ rest) (texts_last saids said) ∙ sym (append_assoc (s.text ++ 10 ∷ []) (texts_of saids) (said.text ++ 10 ∷ []))
 
-faults_last : (saids : List Said) (said : Said) → faults_of (saids ++ said ∷ []) ≡ faults_of saids + number_of said.at_fault
+faults_last : (saids : List Said) (said : Said) → faults_of (saids ++ said ∷ []) ≡ faults_of saids + fault_count said.at_fault
 faults_last [] said = omega arith
 faults_last (s ∷ saids) said = omega (arith, faults_last saids said)
 
@@ -82,6 +82,6 @@ whole_script p ue first last lines saids after opens all ends h =
   where
     faults_of_all : (a : Said) (mid : List Said) (b : Said) → a.at_fault ≡ false → b.at_fault ≡ false → faults_of (a ∷ (mid ++ b ∷ [])) ≡ faults_of mid
     faults_of_all a mid b right also =
-        let first : number_of a.at_fault ≡ 0 = ap number_of right in
-        let last : number_of b.at_fault ≡ 0 = ap number_of also in
+        let first : fault_count a.at_fault ≡ 0 = ap fault_count right in
+        let last : fault_count b.at_fault ≡ 0 = ap fault_count also in
         omega (arith, faults_last mid b)

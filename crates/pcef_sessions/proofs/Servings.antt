@@ -9,7 +9,7 @@ use Rattle.pcef_model.specs.Setting.{Setting}
 use Rattle.pcef_model.specs.Refusals.{first_of, open_faults}
 use Rattle.pcef_script.specs.declared.fault.ScriptFault.{ScriptFault}
 use Rattle.pcef_script.specs.declared.fault.ScriptFault.TheVariants as fault
-use Rattle.pcef_script.specs.ScriptLines.{has_feed, is_blank}
+use Rattle.pcef_script.specs.ScriptLines.{has_feed, is_blank_line}
 use Rattle.pcef_script.specs.ScriptAnswers.{answered}
 use Rattle.pcef_script.specs.Running.{OpenFails}
 use Rattle.pcef_script.specs.Scripts.{Opened, all_lines, cut, ended_lines, last_line}
@@ -21,7 +21,7 @@ use Rattle.pcef_writing.proofs.Fronts.{front_after}
 use Rattle.pcef_sessions.specs.declared.sessions.Sessions.{Sessions}
 use Rattle.pcef_sessions.specs.Addressed.{addressed}
 use Rattle.pcef_sessions.specs.Sayings.{Said, SaysTo}
-use Rattle.pcef_sessions.specs.Served.{AreSaid, Served, Wrote, WroteFront, all_bytes, any_fault, said_bytes}
+use Rattle.pcef_sessions.specs.Served.{AreSaid, Served, WroteNamed, WroteNamedFront, all_bytes, any_fault, said_bytes}
 use Rattle.pcef_sessions.specs.Standing.{fixed, held}
 use Rattle.pcef_sessions.specs.private.Running.{EndFails, HasSaid, IsAfter, KeepsMore, Stopped, StoppedIn, most_kept}
 use Rattle.pcef_sessions.proofs.Kept.{answered_kept, answered_kept_blank}
@@ -69,21 +69,21 @@ line_ends p start now line sessions any input h empty =
     }
 
 -- ---- the end of a line
-pub blank_ends : (p : Setting) (start now : Option (List ℕ)) (line : List ℕ) (sessions : Sessions) (any : Bool) (input : List ℕ) → IsAfter p start now line sessions any input → is_blank line ≡ true
+pub blank_ends : (p : Setting) (start now : Option (List ℕ)) (line : List ℕ) (sessions : Sessions) (any : Bool) (input : List ℕ) → IsAfter p start now line sessions any input → is_blank_line line ≡ true
     → HasSaid p (answered (all_lines input)) start now sessions any
 blank_ends p start now line sessions any input h blank =
     subst (λ ls. HasSaid p ls start now sessions any) (sym (answered_kept_blank (ended_lines input) (last_line input) line h.kept blank)) h.has_said
 
 -- the answers so far, and one more
 said_on : (p : Setting) (start now : Option (List ℕ)) (line : List ℕ) (old new : Sessions) (any : Bool) (input : List ℕ) (h : IsAfter p start now line old any input) (said : Said)
-    → is_blank line ≡ false → SaysTo (fixed old) (held old) (addressed line) said (held new) → AreSaid p (answered (all_lines input)) (h.has_said.saids ++ said ∷ []) (held new)
+    → is_blank_line line ≡ false → SaysTo (fixed old) (held old) (addressed line) said (held new) → AreSaid p (answered (all_lines input)) (h.has_said.saids ++ said ∷ []) (held new)
 said_on p start now line old new any input h said filled says =
     let own : SaysTo p (held old) (addressed line) said (held new) = subst (λ (q : Setting). SaysTo q (held old) (addressed line) said (held new)) h.has_said.setting says in
     let whole = says_same p (held old) (held new) line (last_line input) said h.kept own in
     subst (λ ls. AreSaid p ls (h.has_said.saids ++ said ∷ []) (held new)) (sym (answered_kept (ended_lines input) (last_line input) line h.kept filled))
     (one_said p (held old) (held new) (answered (ended_lines input)) (last_line input) h.has_said.saids said h.has_said.said whole)
 
-pub told_ends : (p : Setting) (start a b : Option (List ℕ)) (line : List ℕ) (old new : Sessions) (any more : Bool) (input : List ℕ) (said : Said) → IsAfter p start a line old any input → is_blank line ≡ false
+pub told_ends : (p : Setting) (start a b : Option (List ℕ)) (line : List ℕ) (old new : Sessions) (any more : Bool) (input : List ℕ) (said : Said) → IsAfter p start a line old any input → is_blank_line line ≡ false
     → SaysTo (fixed old) (held old) (addressed line) said (held new) → fixed new ≡ fixed old → more ≡ (any || said.at_fault) → Appends a b (said_bytes said)
     → HasSaid p (answered (all_lines input)) start b new more
 told_ends p start a b line old new any more input said h filled says same is wrote =
@@ -97,8 +97,8 @@ told_ends p start a b line old new any more input said h filled says same is wro
     }
 
 -- its answer wasn't written whole
-pub told_fails : (p : Setting) (start a b : Option (List ℕ)) (line : List ℕ) (old new : Sessions) (any : Bool) (input : List ℕ) (said : Said) → IsAfter p start a line old any input → is_blank line ≡ false
-    → SaysTo (fixed old) (held old) (addressed line) said (held new) → AppendsFront a b (said_bytes said) → WroteFront p (answered (all_lines input)) start b
+pub told_fails : (p : Setting) (start a b : Option (List ℕ)) (line : List ℕ) (old new : Sessions) (any : Bool) (input : List ℕ) (said : Said) → IsAfter p start a line old any input → is_blank_line line ≡ false
+    → SaysTo (fixed old) (held old) (addressed line) said (held new) → AppendsFront a b (said_bytes said) → WroteNamedFront p (answered (all_lines input)) start b
 told_fails p start a b line old new any input said h filled says wrote = (
   h.has_said.saids ++ said ∷ [],
   held new,
@@ -107,7 +107,7 @@ told_fails p start a b line old new any input said h filled says wrote = (
 )
 
 -- what was written so far
-pub wrote : (p : Setting) (lines : List (List ℕ)) (start now : Option (List ℕ)) (sessions : Sessions) (any : Bool) → HasSaid p lines start now sessions any → Wrote p lines any start now
+pub wrote : (p : Setting) (lines : List (List ℕ)) (start now : Option (List ℕ)) (sessions : Sessions) (any : Bool) → HasSaid p lines start now sessions any → WroteNamed p lines any start now
 wrote p lines start now sessions any h = (h.saids, held sessions, h.said, h.any_is, h.written)
 
 -- ---- blocks
@@ -116,14 +116,14 @@ pub stopped_first : (p : Setting) (start now : Option (List ℕ)) (line : List �
     → StoppedIn p fault.NoMemory start now input block
 stopped_first p start now line sessions any input block h =
     let same : input ++ [] ≡ input = append-nil input in
-    ([], block, refl, (any, subst (λ t. Wrote p (answered (ended_lines t)) any start now) (sym same) (wrote p (answered (ended_lines input)) start now sessions any h.has_said)))
+    ([], block, refl, (any, subst (λ t. WroteNamed p (answered (ended_lines t)) any start now) (sym same) (wrote p (answered (ended_lines input)) start now sessions any h.has_said)))
 
 -- the line that ended wasn't answered
 pub stopped_at : (p : Setting) (e : ScriptFault) (start now : Option (List ℕ)) (input run : List ℕ) → has_feed run ≡ false → EndFails p e start now (input ++ run) → StoppedIn p e start now input (run ++ 10 ∷ [])
 stopped_at p fault.Write start now input run none h =
     let whole : input ++ (run ++ 10 ∷ []) ≡ (input ++ run) ++ 10 ∷ [] = sym (append_assoc input run (10 ∷ [])) in
     let lines : ended_lines (input ++ (run ++ 10 ∷ [])) ≡ all_lines (input ++ run) = ap ended_lines whole ∙ ap (λ (c : Lines). c.0) (cut_end (input ++ run)) in
-    (run ++ 10 ∷ [], [], sym (append-nil (run ++ 10 ∷ [])), subst (λ ls. WroteFront p (answered ls) start now) (sym lines) h)
+    (run ++ 10 ∷ [], [], sym (append-nil (run ++ 10 ∷ [])), subst (λ ls. WroteNamedFront p (answered ls) start now) (sym lines) h)
 stopped_at p fault.NoMemory start now input run none h = (run, 10 ∷ [], refl, h)
 stopped_at p fault.Read start now input run none h = absurd h
 stopped_at p fault.TooMuch start now input run none h = absurd h

@@ -2,7 +2,7 @@
 use Rattle.std.specs.Prelude.{ℕ, ◌==◌, ◌&&◌, not, List, [], ◌∷◌, ◌++◌, Bool, Option, Some, None, option_map, option_and_then, if◌then◌else◌}
 use Rattle.std.specs.Str.{bytes_eq}
 use Rattle.pcef_line.specs.LineValues.{is_name}
-use Rattle.pcef_script.specs.ScriptLines.{is_blank}
+use Rattle.pcef_script.specs.ScriptLines.{is_blank_line}
 
 -- a line at its first space: what stands before it, and what behind it
 abbrev pub at_space : List ℕ → Option (List ℕ × List ℕ)
@@ -19,14 +19,14 @@ is_session_name name = is_name name && not (bytes_eq name no_name)
 
 -- a line behind a session's name isn't blank
 abbrev pub for_session : List ℕ × List ℕ → Option (List ℕ × List ℕ)
-for_session p = if is_session_name p.0 && not (is_blank p.1) then Some p else None
+for_session p = if is_session_name p.0 && not (is_blank_line p.1) then Some p else None
 
 -- the session that a line is for, by its name, and the line that the session gets; none where one of them is missing
 abbrev pub addressed : List ℕ → Option (List ℕ × List ℕ)
 addressed line = option_and_then for_session (at_space line)
 
-abbrev pub name_of : List ℕ → Option (List ℕ)
-name_of line = option_map (λ p. p.0) (addressed line)
+abbrev pub addressed_name : List ℕ → Option (List ℕ)
+addressed_name line = option_map (λ p. p.0) (addressed line)
 
 -- what a line says to the session of a name
 abbrev pub said_to : List ℕ → Option (List ℕ × List ℕ) → List (List ℕ)

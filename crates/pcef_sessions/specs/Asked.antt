@@ -23,8 +23,8 @@ abbrev pub each_key : (List ℕ → Bool) → Members → Bool
 each_key test no_members = true
 each_key test (member key d ms) = test key && each_key test ms
 
-abbrev pub has_only : (List ℕ → Bool) → Data → Bool
-has_only test d = if_there (each_key test) (as_object d)
+abbrev pub has_only_keys : (List ℕ → Bool) → Data → Bool
+has_only_keys test d = if_there (each_key test) (as_object d)
 
 -- `ue` may be absent, and is else the text of an address
 abbrev pub opens_at : Option Addr → Asking
@@ -36,10 +36,10 @@ open_with None = Open None
 open_with (Some d) = opens_at (option_and_then address_of (as_str d))
 
 unfoldable pub open_at : Data → Asking
-open_at d = if has_only is_open_field d then open_with (get (codes "ue") d) else Fault UnknownField
+open_at d = if has_only_keys is_open_field d then open_with (get (codes "ue") d) else Fault UnknownField
 
 unfoldable pub alone_at : Asking → Data → Asking
-alone_at asking d = if has_only is_do_field d then asking else Fault UnknownField
+alone_at asking d = if has_only_keys is_do_field d then asking else Fault UnknownField
 
 -- by the word of the line
 abbrev pub by_word : Option (List ℕ) → Data → Asking

@@ -3,7 +3,7 @@ use Rattle.std.specs.Prelude.{ℕ, ◌≡◌, ◌+◌, All, List, [], ◌∷◌,
 use Rattle.pcef_packet.specs.declared.header.Addr.{Addr}
 use Rattle.pcef_model.specs.Setting.{Setting}
 use Rattle.pcef_world.specs.Steps.{Standing, at_start}
-use Rattle.pcef_script.specs.ScriptAnswers.{Answers, number_of}
+use Rattle.pcef_script.specs.ScriptAnswers.{Answers, fault_count}
 use Rattle.pcef_sessions.specs.declared.asking.Asking.{Asking}
 use Rattle.pcef_sessions.specs.declared.asking.Asking.TheVariants as asking
 use Rattle.pcef_sessions.specs.Asked.{asked_of}
@@ -22,7 +22,7 @@ texts_of (said ∷ more) = (said.text ++ 10 ∷ []) ++ texts_of more
 
 abbrev pub faults_of : List Said → ℕ
 faults_of [] = 0
-faults_of (said ∷ more) = number_of said.at_fault + faults_of more
+faults_of (said ∷ more) = fault_count said.at_fault + faults_of more
 
 -- an open session answers lines that open none, renew none and end none as a script on a session that stands so
 abbrev pub OpenSessionsAreScripts : Type 0

@@ -9,7 +9,7 @@ use Rattle.pcef_script.specs.declared.fault.ScriptFault.TheVariants as fault
 use Rattle.pcef_script.specs.ScriptAnswers.{answered}
 use Rattle.pcef_script.specs.Scripts.{all_lines, ended_lines}
 use Rattle.pcef_writing.specs.Writing.{AppendsFront}
-use Rattle.pcef_sessions.specs.Addressed.{lines_of, name_of, no_name}
+use Rattle.pcef_sessions.specs.Addressed.{lines_of, addressed_name, no_name}
 use Rattle.pcef_sessions.specs.Sayings.{Said, bad_name}
 use Rattle.pcef_sessions.specs.Under.{Session, UnderName}
 
@@ -34,7 +34,7 @@ Under p there (line ∷ lines) saids after =
 -- The answers to lines, one to each and in their order. Under each name stand those that its lines get, from no session
 -- on; what has no name gets one text.
 pub record AreSaid (p : Setting) (lines : List (List ℕ)) (saids : List Said) (after : List ℕ → Option Session) : Type 0 where
-  pub names : map (λ (said : Said). said.name) saids ≡ map name_of lines
+  pub names : map (λ (said : Said). said.name) saids ≡ map addressed_name lines
   pub nameless : All (λ (said : Said). said.name ≡ None → said ≡ bad_name) saids
   pub each : (name : List ℕ) → Under p None (lines_of name lines) (said_under name saids) (after name)
 
@@ -53,19 +53,19 @@ all_bytes (said ∷ more) = said_bytes said ++ all_bytes more
 -- What stands before an answer says which session's it is, or that it is none's: before the answers to two lines stands
 -- the same only where they are for one session, or both for none.
 abbrev pub NamesAreToldApart : Type 0
-NamesAreToldApart = (line other : List ℕ) → name_bytes (name_of line) ≡ name_bytes (name_of other) → name_of line ≡ name_of other
+NamesAreToldApart = (line other : List ℕ) → name_bytes (addressed_name line) ≡ name_bytes (addressed_name other) → addressed_name line ≡ addressed_name other
 
 abbrev pub any_fault : List Said → Bool
 any_fault saids = list_any (λ (said : Said). said.at_fault) saids
 
 -- ---- runs
 -- the answers to these lines were written; or some of their bytes, from the first on
-abbrev pub Wrote : Setting → List (List ℕ) → Bool → Option (List ℕ) → Option (List ℕ) → Type 0
-Wrote p lines any old new =
+abbrev pub WroteNamed : Setting → List (List ℕ) → Bool → Option (List ℕ) → Option (List ℕ) → Type 0
+WroteNamed p lines any old new =
     (saids : List Said) × (after : List ℕ → Option Session) × AreSaid p lines saids after × (any ≡ any_fault saids) × Appends old new (all_bytes saids)
 
-abbrev pub WroteFront : Setting → List (List ℕ) → Option (List ℕ) → Option (List ℕ) → Type 0
-WroteFront p lines old new =
+abbrev pub WroteNamedFront : Setting → List (List ℕ) → Option (List ℕ) → Option (List ℕ) → Type 0
+WroteNamedFront p lines old new =
     (saids : List Said) × (after : List ℕ → Option Session) × AreSaid p lines saids after × AppendsFront old new (all_bytes saids)
 
 -- What was written for the input that was read. At its end it is the answers to all lines, and the result says whether
@@ -73,13 +73,13 @@ WroteFront p lines old new =
 -- the lines before that one; where the writer fails, some of the bytes of the answers up to a line that ended. Where no
 -- session of the profile can be opened, nothing is read or written.
 abbrev pub Served : Setting → Result Bool ScriptFault → Option (List ℕ) → Option (List ℕ) → Option (List ℕ) → List ℕ → Type 0
-Served p (Ok any) old new left input = IsAtEnd left × Wrote p (answered (all_lines input)) any old new
-Served p (Err fault.Read) old new left input = (any : Bool) × Wrote p (answered (ended_lines input)) any old new
+Served p (Ok any) old new left input = IsAtEnd left × WroteNamed p (answered (all_lines input)) any old new
+Served p (Err fault.Read) old new left input = (any : Bool) × WroteNamed p (answered (ended_lines input)) any old new
 Served p (Err fault.NoMemory) old new left input =
-    (front rest : List ℕ) × (any : Bool) × (input ≡ front ++ rest) × Wrote p (answered (ended_lines front)) any old new
+    (front rest : List ℕ) × (any : Bool) × (input ≡ front ++ rest) × WroteNamed p (answered (ended_lines front)) any old new
 Served p (Err fault.Write) old new left input =
-    ((front rest : List ℕ) × (input ≡ front ++ rest) × WroteFront p (answered (ended_lines front)) old new)
-    ⊎ (IsAtEnd left × WroteFront p (answered (all_lines input)) old new)
+    ((front rest : List ℕ) × (input ≡ front ++ rest) × WroteNamedFront p (answered (ended_lines front)) old new)
+    ⊎ (IsAtEnd left × WroteNamedFront p (answered (all_lines input)) old new)
 Served p (Err (fault.Profile f)) old new left input = (input ≡ []) × Appends old new []
 Served p (Err fault.TooMuch) old new left input = ⊥
 

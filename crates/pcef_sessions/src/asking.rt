@@ -3,7 +3,7 @@
 ghost use Rattle.std.specs.Prelude.{◌≡◌, IfOk, codes};
 ghost use Rattle.serde_json.specs.Find.{get};
 ghost use Rattle.serde_json.specs.View.{members_view, view};
-ghost use Rattle.pcef_sessions.specs.Asked.{alone_at, asked_at, asked_of, asked_text, each_key, has_only, is_do_field, is_open_field, open_at, open_with};
+ghost use Rattle.pcef_sessions.specs.Asked.{alone_at, asked_at, asked_of, asked_text, each_key, has_only_keys, is_do_field, is_open_field, open_at, open_with};
 
 use pcef_packet::Addr;
 use pcef_script::MAX_LINE;
@@ -63,7 +63,7 @@ fn are_do_alone(members: &Map<String, Value>) -> bool
 }
 
 fn has_fields_of_open(line: &Value) -> bool
-    ensures { result ≡ has_only is_open_field (view line.now) }
+    ensures { result ≡ has_only_keys is_open_field (view line.now) }
 {
     match line.as_object() {
         Some(members) => are_of_open(members),
@@ -72,7 +72,7 @@ fn has_fields_of_open(line: &Value) -> bool
 }
 
 fn has_do_alone(line: &Value) -> bool
-    ensures { result ≡ has_only is_do_field (view line.now) }
+    ensures { result ≡ has_only_keys is_do_field (view line.now) }
 {
     match line.as_object() {
         Some(members) => are_do_alone(members),

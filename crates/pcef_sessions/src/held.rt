@@ -4,7 +4,7 @@ ghost use Rattle.std.specs.Prelude.{◌≡◌, ◌⊎◌, IfOk, OnErr, OnOk, fal
 ghost use Rattle.std.specs.Arc.{arc_value};
 ghost use Rattle.pcef_model.specs.Journals.{report_count};
 ghost use Rattle.pcef_script.specs.ScriptAnswers.{AnswersLine, LacksForLine};
-ghost use Rattle.pcef_script.specs.ScriptLines.{is_blank};
+ghost use Rattle.pcef_script.specs.ScriptLines.{is_blank_line};
 ghost use Rattle.pcef_sessions.specs.Under.{renewal_text, renewed};
 ghost use Rattle.pcef_world.specs.Steps.{standing_of};
 
@@ -69,7 +69,7 @@ impl Held {
         lines: &mut LineReader,
         line: &[u8],
     ) -> Result<LineAnswer, AllocError>
-        requires { is_blank line.now ≡ false }
+        requires { is_blank_line line.now ≡ false }
         ensures answer { IfOk result (λ a.
             AnswersLine self.old.session.setting self.old.session.standing line.now
             (string_bytes a.text) a.is_fault self.new.session.standing) }

@@ -4,7 +4,7 @@ ghost use Rattle.std.specs.Prelude.{◌≡◌, ◌≢◌, ℕ, List, IfErr, IfOk
 ghost use Rattle.std.specs.Arc.{arc_value};
 ghost use Rattle.pcef_model.specs.ProfileModel.{setting_of};
 ghost use Rattle.pcef_script.specs.Running.{OpenFails};
-ghost use Rattle.pcef_script.specs.ScriptLines.{is_blank};
+ghost use Rattle.pcef_script.specs.ScriptLines.{is_blank_line};
 ghost use Rattle.pcef_script.specs.Scripts.{Opened};
 ghost use Rattle.pcef_world.specs.Worlds.{IsOpenedWorld};
 ghost use Rattle.pcef_sessions.specs.Asked.{asked_of};
@@ -149,7 +149,7 @@ impl Sessions {
     /// The answer of a script to a line for a name, if there is a session. Where the line changed its rules, it may
     /// share an index then.
     fn run(&mut self, name: &SessionName, line: &[u8]) -> Result<Option<LineAnswer>, AllocError>
-        requires { is_blank line.now ≡ false }
+        requires { is_blank_line line.now ≡ false }
         ensures there { IfOk result (λ a. Runs (held self.old name.now) line.now a
             (held self.new name.now)) }
         ensures lacks { OnErr result (RunLacks (held self.old name.now) line.now (held self.new name.now)) }
@@ -266,7 +266,7 @@ impl Sessions {
 
     /// The answer to a line for a name.
     fn answer_to(&mut self, name: &SessionName, line: &[u8]) -> Result<LineAnswer, AllocError>
-        requires { is_blank line.now ≡ false }
+        requires { is_blank_line line.now ≡ false }
         ensures answer { IfOk result (λ a. AnswersIn self.old name.now line.now a self.new) }
         ensures lacks { OnErr result (LacksIn self.old name.now line.now self.new) }
         ensures fixed { fixed self.new ≡ fixed self.old }

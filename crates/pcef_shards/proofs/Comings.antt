@@ -4,7 +4,7 @@ use Rattle.std.specs.Prelude.{Vec}
 use Rattle.std.specs.declared.alloc.Global.{Global}
 use Rattle.std.specs.Io.KnownBytes.{Consumes, IsAtEnd}
 use Rattle.pcef_shards.specs.declared.parcel.Parcel.{Parcel}
-use Rattle.pcef_shards.specs.Leading.{Follows, FollowsIn, IfKnown, octets_in, octets_of, to_come}
+use Rattle.pcef_shards.specs.Leading.{Follows, FollowsIn, IfKnown, octets_in, octets_if_there, to_come}
 
 -- past the end
 pub past : (n : ℕ) (xs : List ℕ) → length xs ≤ n → drop n xs ≡ []
@@ -19,10 +19,10 @@ drop_front (b ∷ front) rest = drop_front front rest
 
 pub in_append : (xs ys : List Parcel) → octets_in (xs ++ ys) ≡ octets_in xs ++ octets_in ys
 in_append [] ys = refl
-in_append (x ∷ xs) ys = ap (λ t. octets_of x.octets ++ t) (in_append xs ys) ∙ sym (append_assoc (octets_of x.octets) (octets_in xs) (octets_in ys))
+in_append (x ∷ xs) ys = ap (λ t. octets_if_there x.octets ++ t) (in_append xs ys) ∙ sym (append_assoc (octets_if_there x.octets) (octets_in xs) (octets_in ys))
 
-pub in_more : (xs : List Parcel) (x : Parcel) → octets_in (xs ++ x ∷ []) ≡ octets_in xs ++ octets_of x.octets
-in_more xs x = in_append xs (x ∷ []) ∙ ap (λ t. octets_in xs ++ t) (append-nil (octets_of x.octets))
+pub in_more : (xs : List Parcel) (x : Parcel) → octets_in (xs ++ x ∷ []) ≡ octets_in xs ++ octets_if_there x.octets
+in_more xs x = in_append xs (x ∷ []) ∙ ap (λ t. octets_in xs ++ t) (append-nil (octets_if_there x.octets))
 
 -- the next octets arrive
 pub octets_come : (part : Option (List ℕ)) (front : List ℕ) (octets : Vec ℕ Global) → IfKnown part (λ whole. FollowsIn whole front (Some octets))
@@ -54,11 +54,11 @@ goes_on part thread before parcel octets own is follows =
 pub refilled : (part : ℕ → Option (List ℕ)) (thread : ℕ) (old new : List Parcel) (parcel : Parcel) (octets : Vec ℕ Global) → parcel.thread ≡ thread → Follows part old parcel → new ≡ old ++ parcel ∷ [] → parcel.octets ≡ Some octets
     → to_come (part thread) (octets_in new) octets.items ≡ to_come (part thread) (octets_in old) []
 refilled part thread old new parcel octets own follows is some =
-    let got : octets_in new ≡ octets_in old ++ octets.items = ap octets_in is ∙ in_more old parcel ∙ ap (λ o. octets_in old ++ octets_of o) some in
+    let got : octets_in new ≡ octets_in old ++ octets.items = ap octets_in is ∙ in_more old parcel ∙ ap (λ o. octets_in old ++ octets_if_there o) some in
     ap (λ r. to_come (part thread) r octets.items) got ∙ octets_come (part thread) (octets_in old) octets (goes_on part thread old parcel (Some octets) own some follows)
 
 none_more : (old new : List Parcel) (parcel : Parcel) → new ≡ old ++ parcel ∷ [] → parcel.octets ≡ None → octets_in new ≡ octets_in old
-none_more old new parcel is none = ap octets_in is ∙ in_more old parcel ∙ ap (λ o. octets_in old ++ octets_of o) none ∙ append-nil (octets_in old)
+none_more old new parcel is none = ap octets_in is ∙ in_more old parcel ∙ ap (λ o. octets_in old ++ octets_if_there o) none ∙ append-nil (octets_in old)
 
 pub ended_same : (part : Option (List ℕ)) (old new : List Parcel) (parcel : Parcel) (at_hand : List ℕ) → new ≡ old ++ parcel ∷ [] → parcel.octets ≡ None
     → to_come part (octets_in new) at_hand ≡ to_come part (octets_in old) at_hand

@@ -6,7 +6,7 @@ use Rattle.std.specs.declared.hash.RandomState.{RandomState}
 use Rattle.std.proofs.lemmas.Bool.{and_parts, eqb-false, eqb-true, false_from_ne_true, or_parts}
 use Rattle.std.proofs.lemmas.Slice.Eq.{bytes_eq-Decides}
 use Rattle.pcef_script.specs.ScriptAnswers.{answered}
-use Rattle.pcef_script.specs.ScriptLines.{has_feed, is_blank}
+use Rattle.pcef_script.specs.ScriptLines.{has_feed, is_blank_line}
 use Rattle.pcef_script.specs.Scripts.{all_lines, cut, ended_lines, joined, last_line}
 use Rattle.pcef_script.proofs.Answering.{answered_blank, answered_more, answered_one}
 use Rattle.pcef_script.proofs.Cuts.{cut_run}
@@ -102,10 +102,10 @@ near_front (suc k) [] p at lt = cc
 near_front (suc k) (b ∷ line) p at lt = near_by b k line p (b == 32) at lt (near_front k line)
 
 said_nothing : (keys : RandomState) (threads : ℕ) (name line : List ℕ) (p : Halves) → at_space line ≡ Some p → thread_of keys threads line ≢ thread_of_name keys threads name
-    → (test : Bool) → (is_session_name p.0 && not (is_blank p.1)) ≡ test → said_to name (if test then Some p else None) ≡ []
+    → (test : Bool) → (is_session_name p.0 && not (is_blank_line p.1)) ≡ test → said_to name (if test then Some p else None) ≡ []
 said_nothing keys threads name line p at other false isnt = refl
 said_nothing keys threads name line p at other true is =
-    let few = (session_names p.0 (and_parts (is_session_name p.0) (not (is_blank p.1)) is).0).1 in
+    let few = (session_names p.0 (and_parts (is_session_name p.0) (not (is_blank_line p.1)) is).0).1 in
     let own : thread_of keys threads line ≡ thread_of_name keys threads p.0 = ap (thread_of_name keys threads) (near_front 65 line p at (omega (arith, few))) in
     let differs : bytes_eq p.0 name ≡ false = false_from_ne_true (bytes_eq p.0 name) (λ e. other (own ∙ ap (thread_of_name keys threads) ((bytes_eq-Decides p.0 name).0 e))) in
     rw differs refl
@@ -113,7 +113,7 @@ said_nothing keys threads name line p at other true is =
 silent_by : (keys : RandomState) (threads : ℕ) (name line : List ℕ) (o : Option Halves) → at_space line ≡ o → thread_of keys threads line ≢ thread_of_name keys threads name
     → said_to name (option_and_then for_session o) ≡ []
 silent_by keys threads name line None at other = refl
-silent_by keys threads name line (Some p) at other = said_nothing keys threads name line p at other (is_session_name p.0 && not (is_blank p.1)) refl
+silent_by keys threads name line (Some p) at other = said_nothing keys threads name line p at other (is_session_name p.0 && not (is_blank_line p.1)) refl
 
 -- ---- what a name hears of lines
 abbrev heard : List ℕ → List (List ℕ) → List (List ℕ)
@@ -127,13 +127,13 @@ lines_append name (line ∷ lines) more =
 heard_more : (name : List ℕ) (lines more : List (List ℕ)) → heard name (lines ++ more) ≡ heard name lines ++ heard name more
 heard_more name lines more = ap (lines_of name) (answered_more lines more) ∙ lines_append name (answered lines) (answered more)
 
-quiet_by : (keys : RandomState) (threads : ℕ) (name line : List ℕ) → thread_of keys threads line ≢ thread_of_name keys threads name → (blank : Bool) → is_blank line ≡ blank → heard name (line ∷ []) ≡ []
+quiet_by : (keys : RandomState) (threads : ℕ) (name line : List ℕ) → thread_of keys threads line ≢ thread_of_name keys threads name → (blank : Bool) → is_blank_line line ≡ blank → heard name (line ∷ []) ≡ []
 quiet_by keys threads name line other true is = ap (lines_of name) (answered_blank line is)
 quiet_by keys threads name line other false isnt =
     ap (lines_of name) (answered_one line isnt) ∙ append-nil (said_to name (addressed line)) ∙ silent_by keys threads name line (at_space line) refl other
 
 quiet : (keys : RandomState) (threads : ℕ) (name line : List ℕ) → thread_of keys threads line ≢ thread_of_name keys threads name → heard name (line ∷ []) ≡ []
-quiet keys threads name line other = quiet_by keys threads name line other (is_blank line) refl
+quiet keys threads name line other = quiet_by keys threads name line other (is_blank_line line) refl
 
 empty_quiet : (name : List ℕ) → heard name ([] ∷ []) ≡ []
 empty_quiet name = ap (lines_of name) (answered_blank [] refl)

@@ -6,14 +6,14 @@ use Rattle.pcef_shards.specs.declared.parcel.Parcel.{Parcel}
 use Rattle.pcef_shards.specs.Parts.{part_of}
 use Rattle.pcef_shards.specs.Picks.{thread_of}
 
-abbrev pub octets_of : Option (Vec ℕ Global) → List ℕ
-octets_of None = []
-octets_of (Some octets) = octets.items
+abbrev pub octets_if_there : Option (Vec ℕ Global) → List ℕ
+octets_if_there None = []
+octets_if_there (Some octets) = octets.items
 
 -- the octets of parcels, in order
 abbrev pub octets_in : List Parcel → List ℕ
 octets_in [] = []
-octets_in (parcel ∷ more) = octets_of parcel.octets ++ octets_in more
+octets_in (parcel ∷ more) = octets_if_there parcel.octets ++ octets_in more
 
 -- what may follow these octets on the way to a whole: the next of them, or the end, where the whole was led
 abbrev pub FollowsIn : List ℕ → List ℕ → Option (Vec ℕ Global) → Type 0

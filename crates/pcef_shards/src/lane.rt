@@ -2,7 +2,7 @@
 
 ghost use Rattle.std.specs.Prelude.{◌≡◌, ◌++◌, ◌∷◌, [], OnOk};
 ghost use Rattle.rtrb.specs.Ring.{sent};
-ghost use Rattle.pcef_shards.specs.Leading.{Follows, FollowsIn, IfKnown, octets_of};
+ghost use Rattle.pcef_shards.specs.Leading.{Follows, FollowsIn, IfKnown, octets_if_there};
 
 use crate::parcel::{Leading, Parcel, Way};
 use crate::signals::Signals;
@@ -87,7 +87,7 @@ impl<N: Leading> Lane<N> {
         octets: Option<Vec<u8>>,
     ) -> Result<(), Stop>
         requires { IfKnown (N.part thread) (λ whole. FollowsIn whole self.old octets) }
-        ensures { OnOk result (self.new ≡ self.old ++ octets_of octets) }
+        ensures { OnOk result (self.new ≡ self.old ++ octets_if_there octets) }
     {
         push(rt, signals, &mut self.way, Parcel { thread, octets })?;
         signals.signal_lines(thread);

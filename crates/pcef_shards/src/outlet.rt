@@ -1,7 +1,7 @@
 //! Answers of several threads, on one writer.
 
 ghost use Rattle.std.specs.Prelude.{◌≡◌, []};
-ghost use Rattle.pcef_shards.specs.Outlets.{written};
+ghost use Rattle.pcef_shards.specs.Outlets.{all_written};
 
 use memchr::memrchr;
 use pcef_history::History;
@@ -32,7 +32,7 @@ fn hand_over<T: Wait, W: Write>(rt: &T, writer: &Mutex<W>, octets: &[u8]) -> io:
 impl<T: Wait + Drop, W: Write + Drop> Outlet<T, W> {
     /// A way to this writer, by which nothing was written yet.
     pub fn new(rt: T, alloc: Global, writer: Arc<Mutex<W>>) -> Outlet<T, W>
-        ensures { written result ≡ [] }
+        ensures { all_written result ≡ [] }
     {
         Outlet {
             rt,
@@ -66,9 +66,9 @@ impl<T: Wait + Drop, W: Write + Drop> Outlet<T, W> {
 
 impl<T: Wait + Drop, W: Write + Drop> Write for Outlet<T, W> {
     ghost use Rattle.std.specs.Prelude.{Some};
-    ghost use Rattle.pcef_shards.specs.Outlets.{written};
+    ghost use Rattle.pcef_shards.specs.Outlets.{all_written};
 
-    ghost contents = { λ o. Some (written o) };
+    ghost contents = { λ o. Some (all_written o) };
 
     fn write(&mut self, bytes: &[u8]) -> io::Result<usize> {
         match self.waiting.extend_from_slice(bytes) {

@@ -5,8 +5,8 @@ use Rattle.pcef_packet.specs.declared.header.Addr.TheVariants.{V4}
 use Rattle.pcef_model.specs.Setting.{Setting}
 
 -- the name of a new ledger by its number: slots 0 to 7, rows, commands
-abbrev pub name_at : List ℕ → ℕ → ℕ
-name_at ledgers k = slice_index ledgers k
+abbrev pub ledger_at : List ℕ → ℕ → ℕ
+ledger_at ledgers k = slice_index ledgers k
 
 -- a setting of no session
 abbrev pub no_setting : Setting

@@ -2,7 +2,7 @@
 
 ghost use Rattle.std.specs.Prelude.{◌≡◌, length};
 ghost use Rattle.pcef_share.specs.Amounts.{zeros};
-ghost use Rattle.pcef_share.specs.Names.{name_at};
+ghost use Rattle.pcef_share.specs.Names.{ledger_at};
 
 use crate::books::MAX_SHARES;
 use crate::naming::Naming;
@@ -84,7 +84,7 @@ impl Blanks {
 
     /// Books with nothing in them, and all parts of their ledgers.
     pub(crate) fn into_tallies<N: Naming>(self) -> Tallies<N>
-        requires { N.ledger ≡ name_at self }
+        requires { N.ledger ≡ ledger_at self }
         ensures { result ≡ record { totals = zeros; parts = 17; amounts = zeros } }
     {
         let Blanks {

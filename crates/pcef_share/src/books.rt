@@ -2,7 +2,7 @@
 
 ghost use Rattle.std.specs.Prelude.{◌≡◌, ◌+◌, ◌<◌, ◌^◌, ◌↔◌, IfOk, IfErr, IsOk, is_some, count_by, slice_index};
 ghost use Rattle.pcef_share.specs.Amounts.{zeros, plus, sums, row_ledger, command_ledger};
-ghost use Rattle.pcef_share.specs.Names.{name_at};
+ghost use Rattle.pcef_share.specs.Names.{ledger_at};
 
 use crate::blanks::Blanks;
 use crate::naming::Naming;
@@ -65,7 +65,7 @@ impl<N: Naming> Books<N> {
     /// Books with nothing in them, of which no share is issued yet. The blanks are those that the name
     /// stands for. Takes no memory, and so can't fail.
     pub fn new(blanks: Blanks) -> Books<N>
-        requires { N.ledger ≡ name_at blanks }
+        requires { N.ledger ≡ ledger_at blanks }
         ensures { result ≡ record { totals = zeros; issued = 0 } }
     {
         Books {

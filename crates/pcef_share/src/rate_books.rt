@@ -1,7 +1,7 @@
 //! The two books of a pool.
 
 ghost use Rattle.std.specs.Prelude.{◌≡◌, ◌+◌, ◌-◌, ◌<◌, ◌≤◌, ◌^◌, ◌↔◌, IfOk, IfErr, IsOk, length};
-ghost use Rattle.pcef_share.specs.Names.{name_at};
+ghost use Rattle.pcef_share.specs.Names.{ledger_at};
 ghost use Rattle.pcef_share.specs.Rates.{granted_with, no_rates, sum_of_rates};
 
 use crate::books::SharesOut;
@@ -46,7 +46,7 @@ impl<P: Pooling> RateBooks<P> {
     /// Books with nothing in them, of which no share is issued yet. The blanks are those that the name stands for.
     /// Takes no memory, and so can't fail.
     pub fn new(blanks: RateBlanks) -> RateBooks<P>
-        requires { P.ledger ≡ name_at blanks }
+        requires { P.ledger ≡ ledger_at blanks }
         ensures { result ≡ record { granted = no_rates; issued = 0 } }
     {
         RateBooks {

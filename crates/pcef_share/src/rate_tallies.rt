@@ -1,7 +1,7 @@
 //! The tallies of a pool's two ledgers, which move together, and shares of them.
 
 ghost use Rattle.std.specs.Prelude.{◌≡◌, ◌+◌, ◌-◌, ◌<◌, ◌≤◌, ◌^◌, length};
-ghost use Rattle.pcef_share.specs.Names.{name_at};
+ghost use Rattle.pcef_share.specs.Names.{ledger_at};
 ghost use Rattle.pcef_share.specs.Rates.{granted_with, no_rates, sum_of_rates, with_rates};
 
 use crate::pooling::{OfPool, Pooling};
@@ -51,7 +51,7 @@ impl RateBlanks {
 
     /// Books with nothing in them, and all parts of their ledgers.
     pub(crate) fn into_tallies<P: Pooling>(self) -> RateTallies<P>
-        requires { P.ledger ≡ name_at self }
+        requires { P.ledger ≡ ledger_at self }
         ensures { result ≡ record { granted = no_rates; parts = 64; amounts = no_rates } }
     {
         let RateBlanks { up, down } = self;

@@ -12,8 +12,8 @@ use Rattle.pcef_rule.specs.declared.quantity.Slot.{Slot}
 use Rattle.pcef_table.specs.declared.entry.TableEntry.{TableEntry}
 use Rattle.pcef_table.specs.declared.entry.Source.{Source}
 use Rattle.pcef_catalog.specs.declared.listing.Offer.{Offer}
-use Rattle.pcef_table.specs.Sources.{IsKnown, is_named, name_of, rank_of}
-use Rattle.pcef_table.specs.Tables.{AreNamedApart, GoesBefore, IsTable, has_other_name, is_before, is_behind, is_slot, most_entries, placed, with_counting, without}
+use Rattle.pcef_table.specs.Sources.{IsKnown, source_is_named, name_of, source_rank}
+use Rattle.pcef_table.specs.Tables.{AreNamedApart, GoesBefore, IsTable, has_other_name, goes_ahead, is_behind, is_slot, most_entries, placed, with_counting, without_entry}
 use Rattle.std.proofs.lemmas.Slice.Eq.{bytes_eq-Decides}
 use Rattle.pcef_lists.proofs.Tests.{contrary}
 use Rattle.pcef_lists.proofs.Keeping.{filter_length, filters_apart}
@@ -44,7 +44,7 @@ ordered_around R chain (a ∷ front) x back front_ordered below back_ordered abo
 -- an entry that has another name than x is named apart from it
 other_is_apart : (offers : List Offer) (x e : TableEntry) → has_other_name offers (name_of offers x.source) e ≡ true → AreNamedApart offers x e
 other_is_apart offers x e other same =
-    contrary (is_named offers (name_of offers x.source) e.source) ((bytes_eq-Decides (name_of offers e.source) (name_of offers x.source)).1 (sym same)) (not_true (is_named offers (name_of offers x.source) e.source) other)
+    contrary (source_is_named offers (name_of offers x.source) e.source) ((bytes_eq-Decides (name_of offers e.source) (name_of offers x.source)).1 (sym same)) (not_true (source_is_named offers (name_of offers x.source) e.source) other)
   where
     not_true : (b : Bool) → not b ≡ true → b ≡ false
     not_true true e = absurd cc
@@ -94,32 +94,32 @@ apart a x before = ap is_lt (rank_total.antisymm x a ∙ ap ordering_reverse (le
 
 -- an entry in its place among those of other names leaves the names apart
 placed_names : (offers : List Offer) (x : TableEntry) (others : List TableEntry) → All (AreNamedApart offers x) others → AllPairs (AreNamedApart offers) others →
-    AllPairs (AreNamedApart offers) (filter (is_before offers x) others ++ x ∷ filter (is_behind offers x) others)
+    AllPairs (AreNamedApart offers) (filter (goes_ahead offers x) others ++ x ∷ filter (is_behind offers x) others)
 placed_names offers x others other pairs =
-    let front = filter (is_before offers x) others in
+    let front = filter (goes_ahead offers x) others in
     let back = filter (is_behind offers x) others in
     pairs_around (AreNamedApart offers) front (x ∷ back)
-    (AllPairs-filter (AreNamedApart offers) (is_before offers x) others pairs)
+    (AllPairs-filter (AreNamedApart offers) (goes_ahead offers x) others pairs)
     (AllPairs-cons (AreNamedApart offers) x back (All-filter (is_behind offers x) (AreNamedApart offers x) others other) (AllPairs-filter (AreNamedApart offers) (is_behind offers x) others pairs))
     (one_more_apart (AreNamedApart offers) x back front
-    (All-filter (is_before offers x) (λ a. AreNamedApart offers a x) others (All-weaker (AreNamedApart offers x) (λ a. AreNamedApart offers a x) (λ a differs same. differs (sym same)) others other))
-    (kept_apart (AreNamedApart offers) (λ a b differs same. differs (sym same)) (is_before offers x) (is_behind offers x) (λ e. apart (rank_of offers e.source) (rank_of offers x.source)) others pairs))
+    (All-filter (goes_ahead offers x) (λ a. AreNamedApart offers a x) others (All-weaker (AreNamedApart offers x) (λ a. AreNamedApart offers a x) (λ a differs same. differs (sym same)) others other))
+    (kept_apart (AreNamedApart offers) (λ a b differs same. differs (sym same)) (goes_ahead offers x) (is_behind offers x) (λ e. apart (source_rank offers e.source) (source_rank offers x.source)) others pairs))
 
 -- a table with an entry in its place is a table
 pub placed_is_table : (offers : List Offer) (x : TableEntry) (entries : List TableEntry) → IsKnown offers x.source → IsTable offers entries → IsTable offers (placed offers x entries)
 placed_is_table offers x entries x_known table =
-    let others = without offers (name_of offers x.source) entries in
+    let others = without_entry offers (name_of offers x.source) entries in
     let rest : IsTable offers others = part_is_table offers (has_other_name offers (name_of offers x.source)) entries table in
-    let front = filter (is_before offers x) others in
+    let front = filter (goes_ahead offers x) others in
     let back = filter (is_behind offers x) others in
     record {
       known = All-append (λ e. IsKnown offers e.source) front (x ∷ back)
-          (All-filter (is_before offers x) (λ e. IsKnown offers e.source) others rest.known)
+          (All-filter (goes_ahead offers x) (λ e. IsKnown offers e.source) others rest.known)
           (All-cons (λ e. IsKnown offers e.source) x back x_known (All-filter (is_behind offers x) (λ e. IsKnown offers e.source) others rest.known));
       ordered = ordered_around (GoesBefore offers)
-          (λ a y b. goes_before_later (rank_of offers a.source) (rank_of offers y.source) (rank_of offers b.source))
+          (λ a y b. goes_before_later (source_rank offers a.source) (source_rank offers y.source) (source_rank offers b.source))
           front x back
-          (AllPairs-filter (GoesBefore offers) (is_before offers x) others rest.ordered) (filter_passes (is_before offers x) others)
+          (AllPairs-filter (GoesBefore offers) (goes_ahead offers x) others rest.ordered) (filter_passes (goes_ahead offers x) others)
           (AllPairs-filter (GoesBefore offers) (is_behind offers x) others rest.ordered) (filter_passes (is_behind offers x) others);
       names = placed_names offers x others (All-weaker (λ e. has_other_name offers (name_of offers x.source) e ≡ true) (AreNamedApart offers x) (other_is_apart offers x) others (filter_passes (has_other_name offers (name_of offers x.source)) entries)) rest.names;
     }
@@ -142,8 +142,8 @@ counting_is_table offers slot on entries table = record {
   known = All-map (λ e. IsKnown offers e.source) (with_counting slot on) entries
       (All-weaker (λ e. IsKnown offers e.source) (λ e. IsKnown offers (with_counting slot on e).source) (counted_keeps (IsKnown offers) slot on) entries table.known);
   ordered = ordered_after (GoesBefore offers) (with_counting slot on)
-      (λ a b before. counted_keeps (λ s. IsTrue (goes_before (rank_of offers s) (rank_of offers (with_counting slot on b).source))) slot on a
-      (counted_keeps (λ s. IsTrue (goes_before (rank_of offers a.source) (rank_of offers s))) slot on b before))
+      (λ a b before. counted_keeps (λ s. IsTrue (goes_before (source_rank offers s) (source_rank offers (with_counting slot on b).source))) slot on a
+      (counted_keeps (λ s. IsTrue (goes_before (source_rank offers a.source) (source_rank offers s))) slot on b before))
       entries table.ordered;
   names = ordered_after (AreNamedApart offers) (with_counting slot on)
       (λ a b apart. counted_keeps (λ s. name_of offers s ≢ name_of offers (with_counting slot on b).source) slot on a
@@ -154,11 +154,11 @@ counting_is_table offers slot on entries table = record {
 -- an entry in its place makes a table longer by one at most
 pub placed_length : (offers : List Offer) (x : TableEntry) (entries : List TableEntry) → length (placed offers x entries) ≤ length entries + 1
 placed_length offers x entries =
-    let others = without offers (name_of offers x.source) entries in
-    let front = filter (is_before offers x) others in
+    let others = without_entry offers (name_of offers x.source) entries in
+    let front = filter (goes_ahead offers x) others in
     let back = filter (is_behind offers x) others in
     let sides : length front + length back ≤ length others =
-    filters_apart (is_before offers x) (is_behind offers x) (λ e. apart (rank_of offers e.source) (rank_of offers x.source)) others in
+    filters_apart (goes_ahead offers x) (is_behind offers x) (λ e. apart (source_rank offers e.source) (source_rank offers x.source)) others in
     let fewer : length others ≤ length entries = filter_length (has_other_name offers (name_of offers x.source)) entries in
     let all : length (placed offers x entries) ≡ length front + length (x ∷ back) = length-append front (x ∷ back) in
     omega arith

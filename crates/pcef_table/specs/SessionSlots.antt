@@ -20,17 +20,17 @@ abbrev pub slots_up : List Bool → List Slot
 slots_up flags = slots_from 0 flags
 
 -- the flags with that of this slot up
-abbrev pub with_slot : Option Slot → List Bool → List Bool
-with_slot None flags = flags
-with_slot (Some slot) flags = set flags slot.0 true
+abbrev pub with_flag_up : Option Slot → List Bool → List Bool
+with_flag_up None flags = flags
+with_flag_up (Some slot) flags = set flags slot.0 true
 
 -- the slots that a packet with this verdict counts for, in slot order: where it passed, the counted slot of its rule, and
 -- those of the keys of session level that are on
 abbrev pub slots_counted : List Offer → TableValue → Verdict → List Slot
-slots_counted offers t (Passed rule bearer) = slots_up (with_slot (slot_for offers t.entries (Passed rule bearer)) t.session)
+slots_counted offers t (Passed rule bearer) = slots_up (with_flag_up (slot_for offers t.entries (Passed rule bearer)) t.session)
 slots_counted offers t _ = []
 
 -- the same, where the counted slot of the rule that let it pass is known
 abbrev pub slots_beside : Option Slot → List Bool → Verdict → List Slot
-slots_beside slot flags (Passed rule bearer) = slots_up (with_slot slot flags)
+slots_beside slot flags (Passed rule bearer) = slots_up (with_flag_up slot flags)
 slots_beside slot flags _ = []

@@ -4,7 +4,7 @@ use Rattle.pcef_rule.specs.declared.quantity.Slot.{Slot}
 use Rattle.pcef_rule.specs.Precedence.{goes_before}
 use Rattle.pcef_catalog.specs.declared.listing.Offer.{Offer}
 use Rattle.pcef_table.specs.declared.entry.TableEntry.{TableEntry}
-use Rattle.pcef_table.specs.Sources.{IsKnown, is_named, name_of, rank_of}
+use Rattle.pcef_table.specs.Sources.{IsKnown, source_is_named, name_of, source_rank}
 use Rattle.pcef_model.specs.declared.command.Command.{Command}
 use Rattle.pcef_model.specs.Commands.{takes_away}
 
@@ -21,7 +21,7 @@ most_entries = 64
 
 -- one entry's rule goes before another's
 abbrev pub GoesBefore : List Offer → TableEntry → TableEntry → Type 0
-GoesBefore offers a b = IsTrue (goes_before (rank_of offers a.source) (rank_of offers b.source))
+GoesBefore offers a b = IsTrue (goes_before (source_rank offers a.source) (source_rank offers b.source))
 
 -- two entries' rules have different names
 abbrev pub AreNamedApart : List Offer → TableEntry → TableEntry → Type 0
@@ -39,34 +39,34 @@ abbrev pub StaysTable : List TableEntry → List TableEntry → Type 0
 StaysTable before after = (offers : List Offer) → IsTable offers before → IsTable offers after
 
 abbrev pub has_other_name : List Offer → List ℕ → TableEntry → Bool
-has_other_name offers name e = not (is_named offers name e.source)
+has_other_name offers name e = not (source_is_named offers name e.source)
 
--- the entries without the one of this name
-abbrev pub without : List Offer → List ℕ → List TableEntry → List TableEntry
-without offers name entries = filter (has_other_name offers name) entries
+-- the entries without_entry the one of this name
+abbrev pub without_entry : List Offer → List ℕ → List TableEntry → List TableEntry
+without_entry offers name entries = filter (has_other_name offers name) entries
 
--- the entries without those whose rules a command takes away
+-- the entries without_entry those whose rules a command takes away
 abbrev pub is_taken : List Offer → Command → TableEntry → Bool
 is_taken offers c e = takes_away c (name_of offers e.source) e.bearer.0
 
 abbrev pub without_taken : List Offer → Command → List TableEntry → List TableEntry
 without_taken offers c entries = filter (λ e. not (is_taken offers c e)) entries
 
--- the entries without those on a bearer
+-- the entries without_entry those on a bearer
 abbrev pub without_bearer : ℕ → List TableEntry → List TableEntry
 without_bearer id entries = filter (λ e. not (e.bearer.0 == id)) entries
 
-abbrev pub is_before : List Offer → TableEntry → TableEntry → Bool
-is_before offers x e = goes_before (rank_of offers e.source) (rank_of offers x.source)
+abbrev pub goes_ahead : List Offer → TableEntry → TableEntry → Bool
+goes_ahead offers x e = goes_before (source_rank offers e.source) (source_rank offers x.source)
 
 abbrev pub is_behind : List Offer → TableEntry → TableEntry → Bool
-is_behind offers x e = goes_before (rank_of offers x.source) (rank_of offers e.source)
+is_behind offers x e = goes_before (source_rank offers x.source) (source_rank offers e.source)
 
 -- an entry in its place among those of other names
 abbrev pub placed : List Offer → TableEntry → List TableEntry → List TableEntry
 placed offers x entries =
-    let others = without offers (name_of offers x.source) entries in
-    filter (is_before offers x) others ++ x ∷ filter (is_behind offers x) others
+    let others = without_entry offers (name_of offers x.source) entries in
+    filter (goes_ahead offers x) others ++ x ∷ filter (is_behind offers x) others
 
 abbrev pub is_slot : Slot → Option Slot → Bool
 is_slot slot None = false

@@ -13,26 +13,26 @@ use Rattle.pcef_catalog.specs.declared.listing.Offer.{Offer}
 use Rattle.pcef_table.specs.declared.entry.TableEntry.{TableEntry}
 use Rattle.pcef_model.specs.declared.verdict.Verdict.{Verdict}
 use Rattle.pcef_model.specs.declared.verdict.Verdict.TheVariants.{Stray, Unmatched, Gated, Passed}
-use Rattle.pcef_table.specs.Sources.{fits, is_named, properties_of}
+use Rattle.pcef_table.specs.Sources.{source_fits, source_is_named, properties_of}
 use Rattle.pcef_table.specs.Tables.{GoesBefore}
 
--- the one entry that fits and goes before every other entry that fits, and its rule's properties
+-- the one entry that source_fits and goes before every other entry that source_fits, and its rule's properties
 pub record IsDecisive (offers : List Offer) (entries : List TableEntry) (ue : Addr) (header : Header) (e : TableEntry) (p : Properties) : Type 0 where
   pub there : Contains entries e
   pub properties_are : properties_of offers e.source ≡ Some p
-  pub fitting : fits offers ue header e.source ≡ true
-  pub first : All (λ f. fits offers ue header f.source ≡ true → (f ≡ e) ⊎ GoesBefore offers e f) entries
+  pub fitting : source_fits offers ue header e.source ≡ true
+  pub first : All (λ f. source_fits offers ue header f.source ≡ true → (f ≡ e) ⊎ GoesBefore offers e f) entries
 
 -- what the gate of a rule decides of a packet of this direction
 abbrev pub gate_verdict : Properties → BearerId → Dir → Verdict
 gate_verdict p bearer dir = if opens p.gate dir then Passed p.name bearer else Gated p.name
 
 -- a packet whose user equipment's side isn't the session's address is a stray (own choice); one that
--- no rule fits is unmatched, and the gateway discards it; else the decisive entry's gate decides
+-- no rule source_fits is unmatched, and the gateway discards it; else the decisive entry's gate decides
 abbrev pub IsVerdict : List Offer → List TableEntry → Addr → Header → Verdict → Type 0
 IsVerdict offers entries ue header Stray = is_assigned (ue_side header) ue ≡ false
 IsVerdict offers entries ue header Unmatched =
-    (is_assigned (ue_side header) ue ≡ true) × All (λ e. fits offers ue header e.source ≡ false) entries
+    (is_assigned (ue_side header) ue ≡ true) × All (λ e. source_fits offers ue header e.source ≡ false) entries
 IsVerdict offers entries ue header (Gated rule) =
     (is_assigned (ue_side header) ue ≡ true) × (e : TableEntry) × (p : Properties)
     × IsDecisive offers entries ue header e p × (opens p.gate header.dir ≡ false) × (rule ≡ p.name)
@@ -43,7 +43,7 @@ IsVerdict offers entries ue header (Passed rule bearer) =
 -- the place of the entry of a name; no two entries of a table have one name
 abbrev pub IsPlaceOf : List Offer → List TableEntry → List ℕ → Option ℕ → Type 0
 IsPlaceOf offers entries name place =
-    option_and_then (λ n. slice_get entries n) place ≡ find (λ e. is_named offers name e.source) entries
+    option_and_then (λ n. slice_get entries n) place ≡ find (λ e. source_is_named offers name e.source) entries
 
 -- the place of the entry whose rule a verdict names
 abbrev pub IsPlaced : List Offer → List TableEntry → Verdict → Option ℕ → Type 0
@@ -66,5 +66,5 @@ slot_by e _ = None
 -- the slot that a packet with this verdict counts for: that of the rule that let it pass, where the
 -- slot is counted
 abbrev pub slot_for : List Offer → List TableEntry → Verdict → Option Slot
-slot_for offers entries (Passed rule bearer) = option_map_or counted_slot (find (λ e. is_named offers rule e.source) entries) None
+slot_for offers entries (Passed rule bearer) = option_map_or counted_slot (find (λ e. source_is_named offers rule e.source) entries) None
 slot_for offers entries _ = None

@@ -1,7 +1,7 @@
 //! Which entries of a generation go into the next one.
 
 ghost use Rattle.std.specs.Prelude.{◌≡◌, ◌++◌, ◌∷◌, [], All, IfOk, OnOk, filter, map, if◌then◌else◌};
-ghost use Rattle.pcef_table.specs.Sides.{stays};
+ghost use Rattle.pcef_table.specs.Sides.{stays_beside};
 ghost use Rattle.pcef_table.specs.Sources.{IsKnown};
 ghost use Rattle.pcef_table.specs.Tables.{is_taken, placed, with_counting, without_taken};
 
@@ -22,7 +22,7 @@ enum Side {
 fn stays<C: Offers>(catalog: &C, x: &TableEntry, side: Side, entry: &TableEntry) -> bool
     requires x_known { IsKnown (C.offers catalog.now) x.now.source }
     requires known { IsKnown (C.offers catalog.now) entry.now.source }
-    ensures { result ≡ stays (C.offers catalog.now) x.now side entry.now }
+    ensures { result ≡ stays_beside (C.offers catalog.now) x.now side entry.now }
 {
     let order = match side {
         Side::Before => entry.source.compare(catalog, &x.source),
@@ -81,7 +81,7 @@ fn copy_side<C: Offers>(
     requires known { All (λ e. IsKnown (C.offers catalog.now) e.source) entries.now }
     requires x_known { IsKnown (C.offers catalog.now) x.now.source }
     ensures { OnOk result (kept.new.items
-        ≡ kept.old.items ++ filter (stays (C.offers catalog.now) x.now side) entries.now) }
+        ≡ kept.old.items ++ filter (stays_beside (C.offers catalog.now) x.now side) entries.now) }
 {
     for entry in entries {
         let stays = stays(catalog, x, side, entry);

@@ -3,7 +3,7 @@
 ghost use Rattle.std.specs.Prelude.{◌≡◌, ◌≤◌, All, IfSome, find, length, slice_get, Some, None};
 ghost use Rattle.std.specs.Option.{option_map, option_map_or};
 ghost use Rattle.pcef_packet.specs.Addresses.{is_assigned, ue_side};
-ghost use Rattle.pcef_table.specs.Sources.{IsKnown, fits, is_named};
+ghost use Rattle.pcef_table.specs.Sources.{IsKnown, source_fits, source_is_named};
 ghost use Rattle.pcef_table.specs.Verdicts.{counted_slot, gate_verdict, slot_by, verdict_by};
 
 use crate::entry::TableEntry;
@@ -32,7 +32,7 @@ pub(crate) fn first_fitting<'a, C: Detects>(
     requires few { length entries.now ≤ 64 }
     ensures known { IfSome result (λ found. IsKnown (C.offers catalog.now) found.1.now.source) }
     ensures first { option_map (λ found. found.1.now) result
-        ≡ find (λ e. fits (C.offers catalog.now) ue.now header.now e.source) entries.now }
+        ≡ find (λ e. source_fits (C.offers catalog.now) ue.now header.now e.source) entries.now }
     ensures place { IfSome result (λ found. slice_get entries.now found.0 ≡ Some found.1.now) }
 {
     for (place, entry) in entries.iter().enumerate() {
@@ -96,7 +96,7 @@ pub(crate) fn slot_of<C: Offers>(
 ) -> Option<Slot>
     requires { All (λ e. IsKnown (C.offers catalog.now) e.source) entries.now }
     ensures { result ≡ option_map_or counted_slot
-        (find (λ e. is_named (C.offers catalog.now) name.now e.source) entries.now) None }
+        (find (λ e. source_is_named (C.offers catalog.now) name.now e.source) entries.now) None }
 {
     for entry in entries {
         if entry.source.is_named(catalog, name) {

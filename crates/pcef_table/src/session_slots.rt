@@ -23,7 +23,7 @@ fn set_up(flags: Flags, place: usize) -> Flags
 
 /// The flags with that of this slot up.
 fn with_slot(slot: Option<Slot>, flags: Flags) -> Flags
-    ensures { result ≡ flag.with_slot slot flags }
+    ensures { result ≡ flag.with_flag_up slot flags }
 {
     match slot {
         None => flags,
@@ -42,7 +42,7 @@ fn any_up(flags: &Flags) -> bool
 
 /// A slot alone, where it is one of the eight.
 fn alone(slot: Option<Slot>) -> ArrayVec<Slot, 8>
-    ensures { result.items ≡ flag.slots_up (flag.with_slot slot flag.no_slots) }
+    ensures { result.items ≡ flag.slots_up (flag.with_flag_up slot flag.no_slots) }
 {
     let mut slots = ArrayVec::new();
     if let Some(slot) = slot {
@@ -56,7 +56,7 @@ fn alone(slot: Option<Slot>) -> ArrayVec<Slot, 8>
 /// The slots whose flags are up where that of this slot is up, too, in order. Most sessions have no key of session
 /// level: then no flag is looked at by itself.
 pub(crate) fn slots_with(slot: Option<Slot>, flags: &Flags) -> ArrayVec<Slot, 8>
-    ensures { result.items ≡ flag.slots_up (flag.with_slot slot flags.now) }
+    ensures { result.items ≡ flag.slots_up (flag.with_flag_up slot flags.now) }
 {
     if any_up(flags) {
         slots_up(&with_slot(slot, *flags))

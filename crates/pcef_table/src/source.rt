@@ -2,7 +2,7 @@
 
 ghost use Rattle.std.specs.Prelude.{◌≡◌, Some};
 ghost use Rattle.pcef_rule.specs.Precedence.{rank_cmp};
-ghost use Rattle.pcef_table.specs.Sources.{IsKnown, fits, is_named, origin_of, properties_of, rank_of};
+ghost use Rattle.pcef_table.specs.Sources.{IsKnown, source_fits, source_is_named, source_origin, properties_of, source_rank};
 
 use crate::entry::Source;
 use pcef_catalog::{Detects, Offers};
@@ -14,7 +14,7 @@ use std::cmp::Ordering;
 impl Source {
     /// Where the rule comes from.
     pub(crate) fn origin(&self) -> Origin
-        ensures { result ≡ origin_of self.now }
+        ensures { result ≡ source_origin self.now }
     {
         match self {
             Source::Dynamic(_) => Origin::Dynamic,
@@ -38,14 +38,14 @@ impl Source {
     /// Whether the rule has this name.
     pub(crate) fn is_named<C: Offers>(&self, catalog: &C, name: &RuleName) -> bool
         requires { IsKnown (C.offers catalog.now) self.now }
-        ensures { result ≡ is_named (C.offers catalog.now) name.now self.now }
+        ensures { result ≡ source_is_named (C.offers catalog.now) name.now self.now }
     {
         self.properties(catalog).name == *name
     }
 
     /// Whether the rule fits a packet.
     pub(crate) fn fits<C: Detects>(&self, catalog: &C, ue: &Addr, header: &Header) -> bool
-        ensures { result ≡ fits (C.offers catalog.now) ue.now header.now self.now }
+        ensures { result ≡ source_fits (C.offers catalog.now) ue.now header.now self.now }
     {
         match self {
             Source::Dynamic(rule) => any_matches(rule.filters(), ue, header),
@@ -58,7 +58,7 @@ impl Source {
         requires known { IsKnown (C.offers catalog.now) self.now }
         requires other_known { IsKnown (C.offers catalog.now) other.now }
         ensures { result ≡ rank_cmp
-            (rank_of (C.offers catalog.now) self.now) (rank_of (C.offers catalog.now) other.now) }
+            (source_rank (C.offers catalog.now) self.now) (source_rank (C.offers catalog.now) other.now) }
     {
         compare_rules(
             self.properties(catalog),

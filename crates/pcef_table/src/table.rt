@@ -3,8 +3,8 @@
 ghost use Rattle.std.specs.Prelude.{◌≡◌, ◌≤◌, ◌<◌, ◌+◌, ◌^◌, [], IfOk, IfSome, find, length, map, set, slice_get};
 ghost use Rattle.std.specs.Option.{option_copied, option_map};
 ghost use Rattle.pcef_table.specs.SessionSlots.{no_slots, slots_beside, slots_counted, slots_up};
-ghost use Rattle.pcef_table.specs.Sources.{IsKnown, fits};
-ghost use Rattle.pcef_table.specs.Tables.{IsTable, StaysTable, most_entries, placed, with_counting, without, without_bearer, without_taken};
+ghost use Rattle.pcef_table.specs.Sources.{IsKnown, source_fits};
+ghost use Rattle.pcef_table.specs.Tables.{IsTable, StaysTable, most_entries, placed, with_counting, without_entry, without_bearer, without_taken};
 ghost use Rattle.pcef_table.specs.Verdicts.{IsVerdict, slot_for};
 
 use crate::change::{copy_all, copy_counting, copy_sources, copy_with, copy_without_taken};
@@ -140,7 +140,7 @@ impl Table {
         requires table { IsTable (C.offers catalog.now) self.now.entries }
         ensures number { IfOk result (λ t. t.number ≡ self.now.number + 1) }
         ensures entries { IfOk result
-            (λ t. t.entries ≡ without (C.offers catalog.now) name.now self.now.entries) }
+            (λ t. t.entries ≡ without_entry (C.offers catalog.now) name.now self.now.entries) }
         ensures session { IfOk result (λ t. t.session ≡ self.now.session) }
         ensures table { IfOk result (λ t. IsTable (C.offers catalog.now) t.entries) }
     {
@@ -256,7 +256,7 @@ impl Table {
         requires { IsTable (C.offers catalog.now) self.now.entries }
         ensures known { IfSome result (λ found. IsKnown (C.offers catalog.now) found.1.now.source) }
         ensures first { option_map (λ found. found.1.now) result
-            ≡ find (λ e. fits (C.offers catalog.now) ue.now header.now e.source) self.now.entries }
+            ≡ find (λ e. source_fits (C.offers catalog.now) ue.now header.now e.source) self.now.entries }
         ensures place { IfSome result (λ found. slice_get self.now.entries found.0 ≡ Some found.1.now) }
     {
         first_fitting(catalog, self.entries(), ue, header)

@@ -5,7 +5,7 @@ use Rattle.std.proofs.lemmas.List.{append_assoc, take_more}
 use Rattle.pcef_model.specs.declared.report.Report.{Report}
 use Rattle.pcef_trigger.specs.declared.kind.ReportKind.{ReportKind}
 use Rattle.pcef_trigger.specs.declared.kind.ReportKind.TheVariants.{Usage, Access, Inactive}
-use Rattle.pcef_trigger.specs.Kinds.{of_kind, same_kind, kind_of}
+use Rattle.pcef_trigger.specs.Kinds.{of_kind, same_kind, report_kind}
 use Rattle.pcef_trigger.specs.Deliveries.{ReportLists, lists_after, with_more}
 
 more_joined : (first more : List Report) (o : Option (List Report)) → with_more more (with_more first o) ≡ with_more (first ++ more) o
@@ -22,7 +22,7 @@ taken_joined (suc first) more (x ∷ xs) =
 of_kind_joined : (kind : ReportKind) (xs ys : List Report) → of_kind kind (xs ++ ys) ≡ of_kind kind xs ++ of_kind kind ys
 of_kind_joined kind [] ys = refl
 of_kind_joined kind (x ∷ xs) ys =
-    elim (cases_Bool (same_kind kind (kind_of x))) [
+    elim (cases_Bool (same_kind kind (report_kind x))) [
       | inl is ↦ rw is (ap (λ zs. x ∷ zs) (of_kind_joined kind xs ys))
       | inr isnt ↦ rw isnt (of_kind_joined kind xs ys)
     ]

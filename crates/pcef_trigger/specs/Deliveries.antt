@@ -10,13 +10,13 @@ use Rattle.pcef_trigger.specs.declared.reporter.Answer.{Answer}
 use Rattle.pcef_trigger.specs.declared.reporter.Answer.TheVariants.{Taken, Refused}
 use Rattle.pcef_trigger.specs.declared.outlet.Delivered.{Delivered}
 use Rattle.pcef_trigger.specs.declared.outlet.Outlet.{Outlet}
-use Rattle.pcef_trigger.specs.Kinds.{kind_of, of_kind, same_kind}
+use Rattle.pcef_trigger.specs.Kinds.{report_kind, of_kind, same_kind}
 
 -- ---- one reporter
 -- a report that is taken is the last of its list, and one that is refused leaves it
-abbrev pub Answers : List Report → Report → Answer → List Report → Type 0
-Answers old report Taken new = new ≡ old ++ report ∷ []
-Answers old report Refused new = new ≡ old
+abbrev pub AnswersReport : List Report → Report → Answer → List Report → Type 0
+AnswersReport old report Taken new = new ≡ old ++ report ∷ []
+AnswersReport old report Refused new = new ≡ old
 
 -- ---- at most one reporter for each kind
 -- a list of the reporter of each kind, if there is one: what it has taken, or what it was asked for
@@ -26,12 +26,12 @@ pub record ReportLists : Type 0 where
   pub inactive : Option (List Report)
 
 abbrev pub list_of : ReportKind → ReportLists → Option (List Report)
-list_of Usage lists = lists.usage
-list_of Access lists = lists.access
-list_of Inactive lists = lists.inactive
+list_of Usage report_lists = report_lists.usage
+list_of Access report_lists = report_lists.access
+list_of Inactive report_lists = report_lists.inactive
 
-abbrev pub lists : {B : Type 0} → (B → List Report) → Option B → Option B → Option B → ReportLists
-lists list usage access inactive = record {
+abbrev pub report_lists : {B : Type 0} → (B → List Report) → Option B → Option B → Option B → ReportLists
+report_lists list usage access inactive = record {
   usage = option_map list usage;
   access = option_map list access;
   inactive = option_map list inactive;
@@ -39,7 +39,7 @@ lists list usage access inactive = record {
 
 -- those of an outlet, where `list` is what each reporter has taken, or what it was asked for
 abbrev pub lists_of : {d : Type 0} {h : d → Type 0} → (DynBox d Global h → List Report) → Outlet d h → ReportLists
-lists_of list outlet = lists list outlet.usage outlet.access outlet.inactive
+lists_of list outlet = report_lists list outlet.usage outlet.access outlet.inactive
 
 -- those of reporters with their kinds: of each kind the first
 abbrev pub list_in : {B : Type 0} → ReportKind → (B → List Report) → List (ReportKind × B) → Option (List Report)
@@ -79,13 +79,13 @@ asked_for reports sent (Some number) = take (sent + 1) reports
 
 -- there is a reporter of the report's kind
 abbrev pub HasReporter : ReportLists → Report → Type 0
-HasReporter lists report = IsTrue (is_some (list_of (kind_of report) lists))
+HasReporter report_lists report = IsTrue (is_some (list_of (report_kind report) report_lists))
 
 -- none is named where all were sent, and else the first after those that were: its reporter refused it
 abbrev pub IsRefusal : ReportLists → List Report → ℕ → Option ℕ → Type 0
-IsRefusal lists reports sent None = sent ≡ length reports
-IsRefusal lists reports sent (Some number) =
-    (report : Report) × (slice_get reports sent ≡ Some report) × (number ≡ report.number) × HasReporter lists report
+IsRefusal report_lists reports sent None = sent ≡ length reports
+IsRefusal report_lists reports sent (Some number) =
+    (report : Report) × (slice_get reports sent ≡ Some report) × (number ≡ report.number) × HasReporter report_lists report
 
-abbrev pub Refuses : {d : Type 0} {h : d → Type 0} → (DynBox d Global h → List Report) → Outlet d h → List Report → Delivered → Type 0
-Refuses taken new reports delivered = IsRefusal (lists_of taken new) reports delivered.sent delivered.refused
+abbrev pub RefusesReports : {d : Type 0} {h : d → Type 0} → (DynBox d Global h → List Report) → Outlet d h → List Report → Delivered → Type 0
+RefusesReports taken new reports delivered = IsRefusal (lists_of taken new) reports delivered.sent delivered.refused

@@ -13,8 +13,8 @@ body_kind (body.Usage key octets cause) = Usage
 body_kind (body.Access kind value) = Access
 body_kind (body.Inactive rule cause) = Inactive
 
-abbrev pub kind_of : Report → ReportKind
-kind_of report = body_kind report.body
+abbrev pub report_kind : Report → ReportKind
+report_kind report = body_kind report.body
 
 abbrev pub same_kind : ReportKind → ReportKind → Bool
 same_kind Usage Usage = true
@@ -29,7 +29,7 @@ same_kind Inactive Inactive = true
 
 -- the reports of a kind, in their order
 abbrev pub of_kind : ReportKind → List Report → List Report
-of_kind kind reports = filter (λ report. same_kind kind (kind_of report)) reports
+of_kind kind reports = filter (λ report. same_kind kind (report_kind report)) reports
 
 -- ---- reporters, each with its kind
 abbrev pub has_kind : {B : Type 0} → ReportKind → List (ReportKind × B) → Bool

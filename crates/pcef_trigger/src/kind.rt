@@ -1,7 +1,7 @@
 //! The kinds of reports.
 
 ghost use Rattle.std.specs.Prelude.{◌≡◌};
-ghost use Rattle.pcef_trigger.specs.Kinds.{has_kind, kind_of, repeats, same_kind};
+ghost use Rattle.pcef_trigger.specs.Kinds.{has_kind, report_kind, repeats, same_kind};
 
 use pcef_model::{Body, Report};
 
@@ -18,7 +18,7 @@ pub enum ReportKind {
 
 /// The kind of a report.
 pub(crate) fn kind_of(report: &Report) -> ReportKind
-    ensures { result ≡ kind_of report.now }
+    ensures { result ≡ report_kind report.now }
 {
     match &report.body {
         Body::Usage { .. } => ReportKind::Usage,

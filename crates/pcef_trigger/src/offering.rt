@@ -1,7 +1,7 @@
 //! One reporter, if there is one.
 
 ghost use Rattle.std.specs.Prelude.{◌≡◌, ◌∷◌, ◌++◌, []};
-ghost use Rattle.pcef_trigger.specs.Deliveries.{Answers};
+ghost use Rattle.pcef_trigger.specs.Deliveries.{AnswersReport};
 ghost use Rattle.pcef_trigger.specs.private.Taking.{AnswersAt, AsksAt};
 
 use crate::reporter::{Answer, Reporter};
@@ -9,7 +9,7 @@ use pcef_model::Report;
 
 /// Hands a report to a reporter, once.
 fn hand(to: &mut Box<dyn Reporter + Send>, report: &Report) -> Answer
-    ensures answer { Answers (taken to.old) report.now result (taken to.new) }
+    ensures answer { AnswersReport (taken to.old) report.now result (taken to.new) }
     ensures asked { asked to.new ≡ asked to.old ++ report.now ∷ [] }
 {
     to.report(report)

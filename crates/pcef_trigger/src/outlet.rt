@@ -2,7 +2,7 @@
 
 ghost use Rattle.std.specs.Prelude.{◌≡◌, ◌∷◌, [], ◌↔◌, ◌≤◌, IfErr, IfOk, IsOk, false, length, take};
 ghost use Rattle.pcef_trigger.specs.Kinds.{repeats};
-ghost use Rattle.pcef_trigger.specs.Deliveries.{Keeps, Refuses, Sends, asked_for};
+ghost use Rattle.pcef_trigger.specs.Deliveries.{Keeps, RefusesReports, Sends, asked_for};
 ghost use Rattle.pcef_trigger.specs.private.Taking.{TakesOne};
 
 use crate::kind::{ReportKind, kind_of, repeats};
@@ -79,7 +79,7 @@ impl Outlet {
     pub fn deliver(&mut self, reports: &[Report]) -> Delivered
         ensures sent { result.sent ≤ length reports.now }
         ensures taken { Sends (λ b. taken b) self.old self.new (take result.sent reports.now) }
-        ensures refused { Refuses (λ b. taken b) self.new reports.now result }
+        ensures refused { RefusesReports (λ b. taken b) self.new reports.now result }
         ensures asked { Sends (λ b. asked b) self.old self.new (asked_for reports.now result.sent result.refused) }
     {
         let mut sent = 0;

@@ -2,7 +2,7 @@
 
 ghost use Rattle.std.specs.Prelude.{List, ◌≡◌, ◌∷◌, ◌++◌, []};
 ghost use Rattle.pcef_model.specs.declared.report.Report.{Report};
-ghost use Rattle.pcef_trigger.specs.Deliveries.{Answers};
+ghost use Rattle.pcef_trigger.specs.Deliveries.{AnswersReport};
 
 use pcef_model::Report;
 
@@ -26,5 +26,5 @@ pub trait Reporter: Drop {
     /// that finds no memory refuses.
     fn report(&mut self, report: &Report) -> Answer
         ensures asked { asked self.new ≡ asked self.old ++ report.now ∷ [] }
-        ensures answer { Answers (taken self.old) report.now result (taken self.new) };
+        ensures answer { AnswersReport (taken self.old) report.now result (taken self.new) };
 }

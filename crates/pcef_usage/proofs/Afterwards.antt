@@ -12,7 +12,7 @@ use Rattle.pcef_model.specs.Journals.{report_count, subscribed}
 use Rattle.pcef_model.specs.Reports.{after_command, plan, with_reports}
 use Rattle.pcef_usage.specs.declared.usage.KeyState.{KeyState}
 use Rattle.pcef_usage.specs.Commands.{entered, subscribed_by}
-use Rattle.pcef_usage.specs.Keys.{finds_no_slot, place_of, started, with_slot}
+use Rattle.pcef_usage.specs.Keys.{finds_no_place, slot_place, started, with_slot}
 use Rattle.pcef_usage.specs.PendingReports.{after_report, body_by, appended}
 use Rattle.pcef_usage.proofs.Monitors.{few_with_slot}
 use Rattle.pcef_usage.proofs.Places.{length-at_place}
@@ -47,7 +47,7 @@ subscribed_after_command p j c =
 
 -- ---- keys
 pub length-entered : (p : Setting) (c : Command) (states : List KeyState) → length (entered p c states) ≡ length (with_slot (key_named p c) (level_named c) states)
-length-entered p (Monitor l amount level) states = length-at_place (started amount) (place_of l (with_slot (key_named p (Monitor l amount level)) level states)) (with_slot (key_named p (Monitor l amount level)) level states)
+length-entered p (Monitor l amount level) states = length-at_place (started amount) (slot_place l (with_slot (key_named p (Monitor l amount level)) level states)) (with_slot (key_named p (Monitor l amount level)) level states)
 length-entered p (Install rule) states = refl
 length-entered p (Activate name) states = refl
 length-entered p (Remove name) states = refl
@@ -59,5 +59,5 @@ length-entered p (LoseBearer id) states = refl
 length-entered p Close states = refl
 length-entered p Terminate states = refl
 
-pub few_entered : (p : Setting) (c : Command) (states : List KeyState) → finds_no_slot (key_named p c) states ≡ false → length states ≤ most_keys → length (entered p c states) ≤ most_keys
+pub few_entered : (p : Setting) (c : Command) (states : List KeyState) → finds_no_place (key_named p c) states ≡ false → length states ≤ most_keys → length (entered p c states) ≤ most_keys
 few_entered p c states finds few = let fits = few_with_slot (key_named p c) (level_named c) states finds few in omega (arith, fits, length-entered p c states)

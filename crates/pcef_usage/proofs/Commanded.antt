@@ -17,7 +17,7 @@ use Rattle.pcef_model.proofs.Growth.{Known, counted_after_command}
 use Rattle.pcef_model.proofs.Sameness.{same_name_self}
 use Rattle.pcef_usage.specs.declared.usage.KeyState.{KeyState}
 use Rattle.pcef_usage.specs.Commands.{Asks, OnAfter, entered, switched_on}
-use Rattle.pcef_usage.specs.Keys.{keys_of, place_of, started, with_slot}
+use Rattle.pcef_usage.specs.Keys.{keys_of, slot_place, started, with_slot}
 use Rattle.pcef_usage.specs.PendingReports.{AllCount, AllOn, Counts, Distinct, OnIs, ended, settled_states, threshold_reports, states_stopped, after_reports, appended}
 use Rattle.pcef_usage.proofs.Endings.{Ended, ending, from_on, keys_all_stopped}
 use Rattle.pcef_usage.proofs.Gone.{on_after}
@@ -33,7 +33,7 @@ use Rattle.pcef_usage.proofs.Tells.{all_same, keys_at_place}
 pub keys_entered : (p : Setting) (j : Journal) (c : Command) (states : List KeyState) → keys_of states ≡ slots p j → keys_of (entered p c states) ≡ slots p (entry.Command c ∷ j)
 unfolding slots_of
 keys_entered p j (Monitor l amount level) states keys =
-    keys_at_place (started amount) (place_of l (with_slot (Some l) level states)) (with_slot (Some l) level states) (λ s. refl) ∙ keys_with_slot (Some l) level states ∙ ap (add_key l) keys
+    keys_at_place (started amount) (slot_place l (with_slot (Some l) level states)) (with_slot (Some l) level states) (λ s. refl) ∙ keys_with_slot (Some l) level states ∙ ap (add_key l) keys
 keys_entered p j (Install rule) states keys = keys_with_slot (key_named p (Install rule)) Rule states ∙ ap (add_if_some (key_named p (Install rule))) keys
 keys_entered p j (Activate name) states keys = keys_with_slot (key_named p (Activate name)) Rule states ∙ ap (add_if_some (key_named p (Activate name))) keys
 keys_entered p j (Remove name) states keys = keys

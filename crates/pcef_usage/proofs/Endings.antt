@@ -13,7 +13,7 @@ use Rattle.pcef_model.specs.Entries.{Journal}
 use Rattle.pcef_model.specs.Journals.{now, slots, subscribed}
 use Rattle.pcef_model.specs.Reports.{with_thresholds, with_reports, thresholds}
 use Rattle.pcef_usage.specs.declared.usage.KeyState.{KeyState}
-use Rattle.pcef_usage.specs.Keys.{at_place, is_reached, keys_of, place_of, reported_on, ungranted_if_reached}
+use Rattle.pcef_usage.specs.Keys.{at_place, grant_is_reached, keys_of, slot_place, reported_on, ungranted_if_reached}
 use Rattle.pcef_usage.specs.PendingReports.{AllCount, AllOn, Distinct, KnowsAll, after_stop, after_report, settled_states, threshold_reports, states_stopped, after_reports, appended}
 use Rattle.pcef_usage.proofs.Loops.{keys_stopped, many}
 use Rattle.pcef_model.proofs.Reports.{tell_now, tell_slots, tell_subscribed}
@@ -30,7 +30,7 @@ on_at g f (suc n) (s ∷ states) h a = (a.0, on_at g f n states h a.1)
 
 on_report : (g : List (List ℕ)) (t : PendingReport) (states : List KeyState) → AllByRecursion (λ s. s.on ≡ is_among s.key g) states → AllByRecursion (λ s. s.on ≡ is_among s.key g) (after_report t states)
 on_report g (Inactive n) states a = a
-on_report g (Usage k cause) states a = on_at g reported_on (place_of k states) states (λ s. (refl, refl)) a
+on_report g (Usage k cause) states a = on_at g reported_on (slot_place k states) states (λ s. (refl, refl)) a
 on_report g (Access t v) states a = a
 
 on_told : (g : List (List ℕ)) (ts : List PendingReport) (states : List KeyState) → AllByRecursion (λ s. s.on ≡ is_among s.key g) states → AllByRecursion (λ s. s.on ≡ is_among s.key g) (after_reports ts states)
@@ -55,7 +55,7 @@ all_on_told p ts us j states a =
 
 on_ungranted : (g : List (List ℕ)) (states : List KeyState) → AllByRecursion (λ s. s.on ≡ is_among s.key g) states → AllByRecursion (λ s. s.on ≡ is_among s.key g) (map ungranted_if_reached states)
 on_ungranted g [] a = tt
-on_ungranted g (s ∷ states) a = (elim (cases_Bool (is_reached s)) [ inl e ↦ rw e a.0 | inr e ↦ rw e a.0 ], on_ungranted g states a.1)
+on_ungranted g (s ∷ states) a = (elim (cases_Bool (grant_is_reached s)) [ inl e ↦ rw e a.0 | inr e ↦ rw e a.0 ], on_ungranted g states a.1)
 
 pub all_on_settled : (p : Setting) (j : Journal) (b : Bool) (states : List KeyState) → AllOn p j states → AllOn p j (settled_states b states)
 all_on_settled p j true states a = to_on p j (map ungranted_if_reached states) (on_ungranted (now p j).on states (from_on p j states a))

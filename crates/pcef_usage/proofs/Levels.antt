@@ -24,7 +24,7 @@ use Rattle.pcef_model.proofs.Sameness.{same_name_is, same_name_of}
 use Rattle.pcef_usage.specs.declared.usage.KeyState.{KeyState}
 use Rattle.pcef_usage.specs.Commands.{entered, started_by}
 use Rattle.pcef_usage.specs.Flushes.{rows_counted}
-use Rattle.pcef_usage.specs.Keys.{added, at_place, clashes, fresh, has_slot, is_reached, keys_of, levels_of, place_of, reported_on, started, state_at, stopped, ungranted_if_reached, with_octets, with_slot}
+use Rattle.pcef_usage.specs.Keys.{added, at_place, level_clashes, fresh, has_slot, grant_is_reached, keys_of, levels_of, slot_place, reported_on, started, state_at, stopped, ungranted_if_reached, with_octets, with_slot}
 use Rattle.pcef_usage.specs.PendingReports.{after_report, after_stop, settled_states, states_stopped, after_reports}
 use Rattle.pcef_usage.proofs.Tells.{has_slot_is, keys_at_place}
 use Rattle.pcef_usage.proofs.Commanded.{keys_entered}
@@ -37,7 +37,7 @@ levels_at_place f (suc n) (s ∷ states) same = ap (λ ls. s.level ∷ ls) (leve
 
 levels_report : (t : PendingReport) (states : List KeyState) → levels_of (after_report t states) ≡ levels_of states
 levels_report (Inactive n) states = refl
-levels_report (Usage k cause) states = levels_at_place reported_on (place_of k states) states (λ s. refl)
+levels_report (Usage k cause) states = levels_at_place reported_on (slot_place k states) states (λ s. refl)
 levels_report (Access kind value) states = refl
 
 pub levels_told : (ts : List PendingReport) (states : List KeyState) → levels_of (after_reports ts states) ≡ levels_of states
@@ -49,7 +49,7 @@ levels_stop : (t : PendingReport) (states : List KeyState) → levels_of (after_
 levels_stop (Inactive n) states = refl
 levels_stop (Usage k cause) states =
     elim (cases_Bool (ends_grant cause)) [
-      | inl ends ↦ rw ends (levels_at_place stopped (place_of k states) states (λ s. refl))
+      | inl ends ↦ rw ends (levels_at_place stopped (slot_place k states) states (λ s. refl))
       | inr leaves ↦ rw leaves refl
     ]
 levels_stop (Access kind value) states = refl
@@ -62,7 +62,7 @@ levels_stopped (t ∷ ts) states = levels_stopped ts (after_stop t states) ∙ l
 levels_ungranted : (states : List KeyState) → levels_of (map ungranted_if_reached states) ≡ levels_of states
 levels_ungranted [] = refl
 levels_ungranted (s ∷ states) =
-    ap₂ (λ l ls. l ∷ ls) (elim (cases_Bool (is_reached s)) [ inl is ↦ rw is refl | inr isnt ↦ rw isnt refl ]) (levels_ungranted states)
+    ap₂ (λ l ls. l ∷ ls) (elim (cases_Bool (grant_is_reached s)) [ inl is ↦ rw is refl | inr isnt ↦ rw isnt refl ]) (levels_ungranted states)
 
 pub levels_settled : (b : Bool) (states : List KeyState) → levels_of (settled_states b states) ≡ levels_of states
 levels_settled true states = levels_ungranted states
@@ -95,7 +95,7 @@ levels_from g [] all = refl
 levels_from g (s ∷ states) all = ap₂ (λ l ls. l ∷ ls) all.0 (levels_from g states all.1)
 
 pub level_at : (g : Generation) (k : List ℕ) (states : List KeyState) → AllByRecursion (λ s. s.level ≡ level_of g s.key) states → has_slot k states ≡ true →
-    (state_at (place_of k states) states).level ≡ level_of g k
+    (state_at (slot_place k states) states).level ≡ level_of g k
 level_at g k [] all there = absurd cc
 level_at g k (s ∷ states) all there =
     elim (cases_Bool (same_name k s.key)) [
@@ -105,7 +105,7 @@ level_at g k (s ∷ states) all there =
 
 -- the test for a clash, by the journal
 pub clashes_is : (p : Setting) (j : Journal) (named : Option (List ℕ)) (level : Level) (states : List KeyState) → keys_of states ≡ slots p j →
-    AllByRecursion (λ s. s.level ≡ level_of (now p j) s.key) states → clashes named level states ≡ clashing p j level named
+    AllByRecursion (λ s. s.level ≡ level_of (now p j) s.key) states → level_clashes named level states ≡ clashing p j level named
 clashes_is p j None level states keys all = refl
 clashes_is p j (Some k) level states keys all =
     let known : has_slot k states ≡ is_among k (slots p j) = has_slot_is k states ∙ ap (is_among k) keys in
@@ -144,7 +144,7 @@ new_level p j c k named absent =
     from Terminate is = absurd cc
 
 levels_started : (c : Command) (states : List KeyState) → levels_of (started_by c states) ≡ levels_of states
-levels_started (Monitor l amount level) states = levels_at_place (started amount) (place_of l states) states (λ s. refl)
+levels_started (Monitor l amount level) states = levels_at_place (started amount) (slot_place l states) states (λ s. refl)
 levels_started (Install rule) states = refl
 levels_started (Activate name) states = refl
 levels_started (Remove name) states = refl
@@ -199,7 +199,7 @@ pub keys_slotted : (p : Setting) (j : Journal) (c : Command) (states : List KeyS
 keys_slotted p j c states keys = sym (keys_started c (with_slot (key_named p c) (level_named c) states)) ∙ keys_entered p j c states keys
   where
     keys_started : (d : Command) (old : List KeyState) → keys_of (started_by d old) ≡ keys_of old
-    keys_started (Monitor l amount level) old = keys_at_place (started amount) (place_of l old) old (λ s. refl)
+    keys_started (Monitor l amount level) old = keys_at_place (started amount) (slot_place l old) old (λ s. refl)
     keys_started (Install rule) old = refl
     keys_started (Activate name) old = refl
     keys_started (Remove name) old = refl

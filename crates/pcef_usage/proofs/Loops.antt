@@ -13,12 +13,12 @@ use Rattle.pcef_model.specs.Entries.{Journal}
 use Rattle.pcef_model.specs.Journals.{report_count, ends_grant}
 use Rattle.pcef_model.proofs.Sameness.{same_name_self}
 use Rattle.pcef_usage.specs.declared.usage.KeyState.{KeyState}
-use Rattle.pcef_usage.specs.Keys.{keys_of, has_slot, place_of, state_at, stopped}
+use Rattle.pcef_usage.specs.Keys.{keys_of, has_slot, slot_place, state_at, stopped}
 use Rattle.pcef_usage.specs.PendingReports.{body_by, after_report, appended, after_reports, Knows, KnowsAll, after_stop, states_stopped, threshold}
 use Rattle.pcef_usage.proofs.Places.{or_more, place_below}
 use Rattle.pcef_usage.proofs.Tells.{has_slot_is, keys_after, keys_at_place}
 
-pub place_known : (k : List ℕ) (states : List KeyState) → is_among k (keys_of states) ≡ true → place_of k states < length states
+pub place_known : (k : List ℕ) (states : List KeyState) → is_among k (keys_of states) ≡ true → slot_place k states < length states
 place_known k states h = place_below k states (has_slot_is k states ∙ h)
 
 pub unknown_not : (k : List ℕ) (states : List KeyState) → is_among k (keys_of states) ≡ true → has_slot k states ≡ false → ⊥
@@ -69,7 +69,7 @@ pub keys_stopped : (t : PendingReport) (ss : List KeyState) → keys_of (after_s
 keys_stopped (Inactive n) ss = refl
 keys_stopped (Usage k cause) ss =
     elim (cases_Bool (ends_grant cause)) [
-      | inl e ↦ rw e (keys_at_place stopped (place_of k ss) ss (λ s. refl))
+      | inl e ↦ rw e (keys_at_place stopped (slot_place k ss) ss (λ s. refl))
       | inr e ↦ rw e refl
     ]
 keys_stopped (Access t v) ss = refl

@@ -16,7 +16,7 @@ use Rattle.pcef_model.specs.Journals.{counted, gen, grant, reported, slots, tabl
 use Rattle.pcef_model.proofs.Growth.{Known, counted_after_command}
 use Rattle.pcef_model.proofs.Sameness.{same_name_not, same_name_turned}
 use Rattle.pcef_usage.specs.declared.usage.KeyState.{KeyState}
-use Rattle.pcef_usage.specs.Keys.{at_place, finds_no_slot, fresh, has_slot, keys_of, place_of, started, with_slot}
+use Rattle.pcef_usage.specs.Keys.{at_place, finds_no_place, fresh, has_slot, keys_of, slot_place, started, with_slot}
 use Rattle.pcef_usage.specs.PendingReports.{AllCount, AllOn, Counts, Distinct, OnIs}
 use Rattle.pcef_usage.proofs.Places.{or_no}
 use Rattle.pcef_model.proofs.Reports.{reported_after_command}
@@ -90,13 +90,13 @@ slot_on p j (Some k) level states keys all =
 
 -- the test for a free slot, by the journal
 pub finds_no_slot_is : (p : Setting) (j : Journal) (k : List ℕ) (states : List KeyState) → keys_of states ≡ slots p j →
-    finds_no_slot (Some k) states ≡ (not (is_among k (slots p j)) && nat_le most_keys (length (slots p j)))
+    finds_no_place (Some k) states ≡ (not (is_among k (slots p j)) && nat_le most_keys (length (slots p j)))
 finds_no_slot_is p j k states keys =
     let known : has_slot k states ≡ is_among k (slots p j) = has_slot_is k states ∙ ap (is_among k) keys in
     let many : length states ≡ length (slots p j) = sym (length-map states (λ s. s.key)) ∙ ap length keys in
     ap (λ (b : Bool). not b && nat_le most_keys (length states)) known ∙ ap (λ n. not (is_among k (slots p j)) && nat_le most_keys n) many
 
-pub few_with_slot : (named : Option (List ℕ)) (level : Level) (states : List KeyState) → finds_no_slot named states ≡ false → length states ≤ most_keys → length (with_slot named level states) ≤ most_keys
+pub few_with_slot : (named : Option (List ℕ)) (level : Level) (states : List KeyState) → finds_no_place named states ≡ false → length states ≤ most_keys → length (with_slot named level states) ≤ most_keys
 few_with_slot None level states finds few = few
 few_with_slot (Some k) level states finds few =
     elim (cases_Bool (has_slot k states)) [
@@ -120,7 +120,7 @@ start_counts p j k amount level s known agrees =
 
 -- the key of a Monitor is started where it has its place
 pub monitor_counts : (p : Setting) (j : Journal) (k : List ℕ) (amount : ℕ) (level : Level) (states : List KeyState) → Known (gen j) (rows j) → Distinct (keys_of states) → AllCount p j [] states →
-    AllCount p (entry.Command (Monitor k amount level) ∷ j) [] (at_place (place_of k states) (started amount) states)
+    AllCount p (entry.Command (Monitor k amount level) ∷ j) [] (at_place (slot_place k states) (started amount) states)
 unfolding AllCount
 monitor_counts p j k amount level states known distinct all =
     subst (AllByRecursion (Counts p (entry.Command (Monitor k amount level) ∷ j) [])) (sym (at_place_maps (started amount) k states distinct))
@@ -140,7 +140,7 @@ start_on on k amount s is =
     ]
 
 pub monitor_on : (on : List (List ℕ)) (k : List ℕ) (amount : ℕ) (states : List KeyState) → Distinct (keys_of states) → AllByRecursion (λ s. s.on ≡ is_among s.key on) states →
-    AllByRecursion (λ s. s.on ≡ is_among s.key (add_key k on)) (at_place (place_of k states) (started amount) states)
+    AllByRecursion (λ s. s.on ≡ is_among s.key (add_key k on)) (at_place (slot_place k states) (started amount) states)
 monitor_on on k amount states distinct all =
     subst (AllByRecursion (λ s. s.on ≡ is_among s.key (add_key k on))) (sym (at_place_maps (started amount) k states distinct))
     (all_mapped (λ s. s.on ≡ is_among s.key on) (λ s. s.on ≡ is_among s.key (add_key k on)) (λ s. if same_name k s.key then started amount s else s) states

@@ -7,7 +7,7 @@ use Rattle.std.proofs.lemmas.Bool.{cases_Bool}
 use Rattle.std.proofs.lemmas.List.Edits.{map_over_more}
 use Rattle.pcef_model.specs.Setting.{same_name}
 use Rattle.pcef_usage.specs.declared.usage.KeyState.{KeyState}
-use Rattle.pcef_usage.specs.Keys.{has_slot, place_of, at_place, state_at, AllFit, is_reached, reached_places, ungranted_if_reached}
+use Rattle.pcef_usage.specs.Keys.{has_slot, slot_place, at_place, state_at, AllFit, grant_is_reached, reached_places, ungranted_if_reached}
 
 -- ---- tests
 pub or_no : (a b : Bool) → (a || b) ≡ false → (a ≡ false) × (b ≡ false)
@@ -57,7 +57,7 @@ read v xs ws i d a h e = ap (λ ys. get_or ys i d) (e ∙ a) ∙ state_read v i 
 
 -- looking for a key
 pub found : (k : List ℕ) (xs : List KeyState) (i : ℕ) (d : KeyState) → i < length xs → has_slot k (take i xs) ≡ false → same_name k (get_or xs i d).key ≡ true →
-    (has_slot k xs ≡ true) × (i ≡ place_of k xs)
+    (has_slot k xs ≡ true) × (i ≡ slot_place k xs)
 found k [] i d h n e = absurd (omega arith)
 found k (x ∷ xs) zero d h n e = rw e (refl, refl)
 found k (x ∷ xs) (suc i) d h n e =
@@ -79,7 +79,7 @@ pub not_found_more : (k : List ℕ) (xs : List KeyState) (i : ℕ) (d : KeyState
     has_slot k (take (i + 1) xs) ≡ false
 not_found_more k xs i d h n e = ap (has_slot k) (take_more xs i d h) ∙ any_push k (take i xs) (get_or xs i d) n e
 
-pub place_below : (k : List ℕ) (xs : List KeyState) → has_slot k xs ≡ true → place_of k xs < length xs
+pub place_below : (k : List ℕ) (xs : List KeyState) → has_slot k xs ≡ true → slot_place k xs < length xs
 place_below k [] h = cc
 place_below k (x ∷ xs) h =
     elim (cases_Bool (same_name k x.key)) [
@@ -99,34 +99,34 @@ same_at f xs ys i d h e =
     ap (λ zs. get_or zs i d) (e ∙ ap (λ zs. map f (take i xs) ++ zs) (drop_more xs i d h)) ∙
     get_or_at (map f (take i xs)) (get_or xs i d) (drop (i + 1) xs) d i (length-map (take i xs) f ∙ length-take-le i xs (omega arith))
 
-reached_push : (n : ℕ) (xs : List KeyState) (y : KeyState) → reached_places n (xs ++ y ∷ []) ≡ reached_places n xs ++ (if is_reached y then (n + length xs) ∷ [] else [])
+reached_push : (n : ℕ) (xs : List KeyState) (y : KeyState) → reached_places n (xs ++ y ∷ []) ≡ reached_places n xs ++ (if grant_is_reached y then (n + length xs) ∷ [] else [])
 reached_push n [] y =
-    elim (cases_Bool (is_reached y)) [
+    elim (cases_Bool (grant_is_reached y)) [
       | inl e ↦ rw e (ap (λ m. m ∷ []) (omega arith))
       | inr e ↦ rw e refl
     ]
 reached_push n (x ∷ xs) y =
     let r = reached_push (suc n) xs y in
     let a : suc n + length xs ≡ n + suc (length xs) = omega arith in
-    let b : reached_places (suc n) (xs ++ y ∷ []) ≡ reached_places (suc n) xs ++ (if is_reached y then (n + suc (length xs)) ∷ [] else []) =
-    r ∙ ap (λ m. reached_places (suc n) xs ++ (if is_reached y then m ∷ [] else [])) a in
-    elim (cases_Bool (is_reached x)) [
+    let b : reached_places (suc n) (xs ++ y ∷ []) ≡ reached_places (suc n) xs ++ (if grant_is_reached y then (n + suc (length xs)) ∷ [] else []) =
+    r ∙ ap (λ m. reached_places (suc n) xs ++ (if grant_is_reached y then m ∷ [] else [])) a in
+    elim (cases_Bool (grant_is_reached x)) [
       | inl e ↦ rw e (ap (λ zs. n ∷ zs) b)
       | inr e ↦ rw e b
     ]
 
-pub reached_step : (xs : List KeyState) (i : ℕ) (d : KeyState) (old new : List ℕ) (b : Bool) → i < length xs → old ≡ reached_places 0 (take i xs) → b ≡ is_reached (get_or xs i d) →
+pub reached_step : (xs : List KeyState) (i : ℕ) (d : KeyState) (old new : List ℕ) (b : Bool) → i < length xs → old ≡ reached_places 0 (take i xs) → b ≡ grant_is_reached (get_or xs i d) →
     new ≡ old ++ (if b then i ∷ [] else []) → new ≡ reached_places 0 (take (i + 1) xs)
 reached_step xs i d old new b h e f g =
     let l : 0 + length (take i xs) ≡ i = omega (arith, length-take-le i xs (omega arith)) in
     g ∙ ap (λ zs. zs ++ (if b then i ∷ [] else [])) e ∙ ap (λ c. reached_places 0 (take i xs) ++ (if c then i ∷ [] else [])) f ∙
     sym (ap (reached_places 0) (take_more xs i d h) ∙ reached_push 0 (take i xs) (get_or xs i d) ∙
-    ap (λ m. reached_places 0 (take i xs) ++ (if is_reached (get_or xs i d) then m ∷ [] else [])) l)
+    ap (λ m. reached_places 0 (take i xs) ++ (if grant_is_reached (get_or xs i d) then m ∷ [] else [])) l)
 
 fit_ungranted : (states : List KeyState) → AllFit states → AllFit (map ungranted_if_reached states)
 fit_ungranted [] a = tt
 fit_ungranted (s ∷ states) a =
-    (elim (cases_Bool (is_reached s)) [ inl e ↦ rw e a.0 | inr e ↦ rw e a.0 ], fit_ungranted states a.1)
+    (elim (cases_Bool (grant_is_reached s)) [ inl e ↦ rw e a.0 | inr e ↦ rw e a.0 ], fit_ungranted states a.1)
 
 pub fit_settled : (n : ℕ) (xs ws ys : List KeyState) (i : ℕ) → n ≡ length xs → ws ≡ xs → AllFit xs → length ws ≤ i → length ys ≡ length ws → ys ≡ map ungranted_if_reached (take i ws) ++ drop i ws →
     AllFit (refill n xs ys)

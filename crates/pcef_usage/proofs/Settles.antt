@@ -14,7 +14,7 @@ use Rattle.pcef_model.specs.Reports.{is_reached as is_key_reached, thresholds}
 use Rattle.pcef_model.proofs.Sameness.{same_name_is, same_name_not, same_name_self, same_name_turned}
 use Rattle.pcef_usage.specs.declared.usage.KeyState.{KeyState}
 use Rattle.pcef_rule.specs.declared.quantity.Slot.{Slot}
-use Rattle.pcef_usage.specs.Keys.{keys_of, place_of, at_place, state_at, stopped, is_reached, reached_places, ungranted_if_reached}
+use Rattle.pcef_usage.specs.Keys.{keys_of, slot_place, at_place, state_at, stopped, grant_is_reached, reached_places, ungranted_if_reached}
 use Rattle.pcef_usage.specs.PendingReports.{ends, ended, KnowsAll, Distinct, Counts, AllCount, after_stop, states_stopped, OnIs, AllOn, reached_reports, threshold, threshold_reports, settled_states}
 use Rattle.pcef_usage.proofs.Places.{or_more, or_rest}
 use Rattle.pcef_usage.proofs.Tells.{at_place_maps, all_mapped}
@@ -53,9 +53,9 @@ stop_is (Inactive n) states d = sym (map_same states (stopped_if (λ l. ends l (
 stop_is (Access a v) states d = sym (map_same states (stopped_if (λ l. ends l (Access a v))) (λ x. refl))
 stop_is (Usage k cause) states d =
     elim (cases_Bool (ends_grant cause)) [
-      | inl e ↦ ap (λ (b : Bool). if b then at_place (place_of k states) stopped states else states) e ∙ at_place_maps stopped k states d ∙
+      | inl e ↦ ap (λ (b : Bool). if b then at_place (slot_place k states) stopped states else states) e ∙ at_place_maps stopped k states d ∙
           map_alike _ (stopped_if (λ l. ends l (Usage k cause))) states (λ s. sym (stop_one k cause s e))
-      | inr e ↦ ap (λ (b : Bool). if b then at_place (place_of k states) stopped states else states) e ∙
+      | inr e ↦ ap (λ (b : Bool). if b then at_place (slot_place k states) stopped states else states) e ∙
           sym (map_same states (stopped_if (λ l. ends l (Usage k cause))) (never k cause e))
     ]
 
@@ -87,7 +87,7 @@ all_stopped p j ts states d a =
 
 -- the reports at the end of an event
 
-reached_is : (p : Setting) (j : Journal) (s : KeyState) → OnIs p j s → Counts p j [] s → is_reached s ≡ is_key_reached p j s.key
+reached_is : (p : Setting) (j : Journal) (s : KeyState) → OnIs p j s → Counts p j [] s → grant_is_reached s ≡ is_key_reached p j s.key
 reached_is p j s o h =
     let u : s.unreported ≡ unreported p j s.key = omega (arith, h.reported_is, h.counted_is) in rw (o.on_is, h.grant_is, u) refl
 
@@ -97,8 +97,8 @@ reached_keys p j [] o a = refl
 reached_keys p j (s ∷ states) o a =
     let e = reached_is p j s o.0 a.0 in
     elim (cases_Bool (is_key_reached p j s.key)) [
-      | inl f ↦ let g : is_reached s ≡ true = e ∙ f in rw (f, g, reached_keys p j states o.1 a.1) refl
-      | inr f ↦ let g : is_reached s ≡ false = e ∙ f in rw (f, g, reached_keys p j states o.1 a.1) refl
+      | inl f ↦ let g : grant_is_reached s ≡ true = e ∙ f in rw (f, g, reached_keys p j states o.1 a.1) refl
+      | inr f ↦ let g : grant_is_reached s ≡ false = e ∙ f in rw (f, g, reached_keys p j states o.1 a.1) refl
     ]
 
 pub thresholds_are : (p : Setting) (j : Journal) (states : List KeyState) → keys_of states ≡ slots p j → AllOn p j states → AllCount p j [] states →
@@ -122,9 +122,9 @@ settle_counts : (p : Setting) (j : Journal) (ts : List PendingReport) (s : KeySt
     OnIs p j s → Counts p j [] s → Counts p j ts (ungranted_if_reached s)
 settle_counts p j ts s there back o h =
     elim (cases_Bool (is_key_reached p j s.key)) [
-      | inl e ↦ let g : is_reached s ≡ true = reached_is p j s o h ∙ e in let f : ended ts s.key ≡ true = back e in
+      | inl e ↦ let g : grant_is_reached s ≡ true = reached_is p j s o h ∙ e in let f : ended ts s.key ≡ true = back e in
           rw g (record { grant_is = rw f refl; reported_is = h.reported_is; counted_is = h.counted_is })
-      | inr e ↦ let g : is_reached s ≡ false = reached_is p j s o h ∙ e in
+      | inr e ↦ let g : grant_is_reached s ≡ false = reached_is p j s o h ∙ e in
           rw g (elim (cases_Bool (ended ts s.key)) [
             | inl f ↦ let i : is_key_reached p j s.key ≡ true = there f in cc
             | inr f ↦ record { grant_is = rw f h.grant_is; reported_is = h.reported_is; counted_is = h.counted_is }
@@ -164,7 +164,7 @@ all_settled p j states e o a =
 
 keys_ungranted : (states : List KeyState) → keys_of (map ungranted_if_reached states) ≡ keys_of states
 keys_ungranted [] = refl
-keys_ungranted (s ∷ states) = elim (cases_Bool (is_reached s)) [ inl e ↦ rw (e, keys_ungranted states) refl | inr e ↦ rw (e, keys_ungranted states) refl ]
+keys_ungranted (s ∷ states) = elim (cases_Bool (grant_is_reached s)) [ inl e ↦ rw (e, keys_ungranted states) refl | inr e ↦ rw (e, keys_ungranted states) refl ]
 
 pub keys_settled : (b : Bool) (states : List KeyState) → keys_of (settled_states b states) ≡ keys_of states
 keys_settled true states = keys_ungranted states
@@ -182,7 +182,7 @@ unfolding KnowsAll
 knows_reached [] = tt
 knows_reached (s ∷ states) =
     let r = knows_more s.key (keys_of states) (reached_reports states) (knows_reached states) in
-    elim (cases_Bool (is_reached s)) [
+    elim (cases_Bool (grant_is_reached s)) [
       | inl e ↦ rw e (rw (same_name_self s.key) refl, r)
       | inr e ↦ rw e r
     ]
@@ -194,7 +194,7 @@ knows_settled false states = tt
 
 few_reached : (states : List KeyState) → length (reached_reports states) ≤ length states
 few_reached [] = omega arith
-few_reached (s ∷ states) = let r = few_reached states in elim (cases_Bool (is_reached s)) [ inl e ↦ rw e (omega arith) | inr e ↦ rw e (omega arith) ]
+few_reached (s ∷ states) = let r = few_reached states in elim (cases_Bool (grant_is_reached s)) [ inl e ↦ rw e (omega arith) | inr e ↦ rw e (omega arith) ]
 
 pub few_settled : (b : Bool) (states : List KeyState) → length (threshold_reports b states) ≤ length states
 few_settled true states = few_reached states
@@ -205,7 +205,7 @@ few_settled false states = omega arith
 shifted : (n : ℕ) (states : List KeyState) → reached_places (suc n) states ≡ map suc (reached_places n states)
 shifted n [] = refl
 shifted n (s ∷ states) =
-    elim (cases_Bool (is_reached s)) [
+    elim (cases_Bool (grant_is_reached s)) [
       | inl e ↦ rw (e, shifted (suc n) states) refl
       | inr e ↦ rw (e, shifted (suc n) states) refl
     ]
@@ -215,7 +215,7 @@ map_map f g [] = refl
 map_map f g (x ∷ xs) = ap (λ ys. f (g x) ∷ ys) (map_map f g xs)
 
 key_ungranted : (s : KeyState) → (ungranted_if_reached s).key ≡ s.key
-key_ungranted s = elim (cases_Bool (is_reached s)) [ inl e ↦ rw e refl | inr e ↦ rw e refl ]
+key_ungranted s = elim (cases_Bool (grant_is_reached s)) [ inl e ↦ rw e refl | inr e ↦ rw e refl ]
 
 at_places : (states : List KeyState) → map (λ n. threshold (state_at n (map ungranted_if_reached states)).key) (reached_places 0 states) ≡ reached_reports states
 at_places [] = refl
@@ -223,7 +223,7 @@ at_places (s ∷ states) =
     let r : map (λ n. threshold (state_at n (map ungranted_if_reached (s ∷ states))).key) (reached_places 1 states) ≡ reached_reports states =
     ap (map (λ n. threshold (state_at n (map ungranted_if_reached (s ∷ states))).key)) (shifted 0 states) ∙
     map_map (λ n. threshold (state_at n (map ungranted_if_reached (s ∷ states))).key) suc (reached_places 0 states) ∙ at_places states in
-    elim (cases_Bool (is_reached s)) [
+    elim (cases_Bool (grant_is_reached s)) [
       | inl e ↦ rw e (ap (λ k. threshold k ∷ map (λ n. threshold (state_at n (map ungranted_if_reached (s ∷ states))).key) (reached_places 1 states)) (key_ungranted s) ∙ ap (λ ts. threshold s.key ∷ ts) r)
       | inr e ↦ rw e r
     ]
@@ -241,7 +241,7 @@ places_below n [] = tt
 places_below n (s ∷ states) =
     let r : AllByRecursion (λ m. m < n + suc (length states)) (reached_places (suc n) states) =
     subst (λ b. AllByRecursion (λ m. m < b) (reached_places (suc n) states)) (omega arith) (places_below (suc n) states) in
-    elim (cases_Bool (is_reached s)) [
+    elim (cases_Bool (grant_is_reached s)) [
       | inl e ↦ rw e (omega arith, r)
       | inr e ↦ rw e r
     ]

@@ -16,7 +16,7 @@ use Rattle.pcef_model.specs.Journals.{counted, counts, now, octets_of, slots, ta
 use Rattle.pcef_model.proofs.Sameness.{same_name_is, same_name_not, same_name_of}
 use Rattle.pcef_model.proofs.Strangers.{stranger_counts, stranger_off}
 use Rattle.pcef_usage.specs.declared.usage.KeyState.{KeyState}
-use Rattle.pcef_usage.specs.Keys.{IsSlotOf, fresh, has_slot, keys_of, place_of, with_slot}
+use Rattle.pcef_usage.specs.Keys.{IsSlotOf, fresh, has_slot, keys_of, slot_place, with_slot}
 use Rattle.pcef_usage.specs.PendingReports.{Distinct}
 use Rattle.pcef_usage.proofs.Places.{or_no}
 use Rattle.pcef_usage.proofs.Tells.{has_slot_is}
@@ -38,7 +38,7 @@ pub without_slot : (k : List ℕ) (states : List KeyState) (slot : Option Slot) 
 without_slot k states None is none = is
 without_slot k states (Some s) is none = cc
 
-place_fresh : (k : List ℕ) (level : Level) (states : List KeyState) → has_slot k states ≡ false → place_of k (states ++ fresh k level ∷ []) ≡ length states
+place_fresh : (k : List ℕ) (level : Level) (states : List KeyState) → has_slot k states ≡ false → slot_place k (states ++ fresh k level ∷ []) ≡ length states
 place_fresh k level [] absent = rw (same_name_of k k refl) refl
 place_fresh k level (s ∷ states) absent =
     let parts = or_no (same_name k s.key) (has_slot k states) absent in
@@ -46,8 +46,8 @@ place_fresh k level (s ∷ states) absent =
 
 -- it gets the next one
 pub slot_is_place : (r : Result Slot SlotFault) (k : List ℕ) (level : Level) (old new : List KeyState) → has_slot k old ≡ false →
-    IfOk r (λ s. s.0 ≡ length old) → OnOk r (new ≡ old ++ fresh k level ∷ []) → IfOk r (λ s. s.0 ≡ place_of k new)
-slot_is_place (Ok s) k level old new absent is states = is ∙ sym (ap (place_of k) states ∙ place_fresh k level old absent)
+    IfOk r (λ s. s.0 ≡ length old) → OnOk r (new ≡ old ++ fresh k level ∷ []) → IfOk r (λ s. s.0 ≡ slot_place k new)
+slot_is_place (Ok s) k level old new absent is states = is ∙ sym (ap (slot_place k) states ∙ place_fresh k level old absent)
 slot_is_place (Err e) k level old new absent is states = tt
 
 -- ---- one key more, or some fewer

@@ -16,7 +16,7 @@ use Rattle.pcef_model.specs.Journals.{grant, reported, unreported, report_count,
 use Rattle.pcef_model.specs.Reports.{with_reports, body_of}
 use Rattle.pcef_model.proofs.Sameness.{same_name_is, same_name_not, same_name_turned}
 use Rattle.pcef_usage.specs.declared.usage.KeyState.{KeyState}
-use Rattle.pcef_usage.specs.Keys.{keys_of, has_slot, place_of, at_place, state_at, reported_on}
+use Rattle.pcef_usage.specs.Keys.{keys_of, has_slot, slot_place, at_place, state_at, reported_on}
 use Rattle.pcef_usage.specs.PendingReports.{body_by, after_report, appended, after_reports, ended, Knows, KnowsAll, Distinct, Counts, AllCount}
 use Rattle.pcef_usage.proofs.Places.{or_no, or_rest}
 
@@ -33,7 +33,7 @@ keys_at_place f (suc n) (s ∷ states) h = ap (λ ks. s.key ∷ ks) (keys_at_pla
 
 pub keys_after : (t : PendingReport) (states : List KeyState) → keys_of (after_report t states) ≡ keys_of states
 keys_after (Inactive n) states = refl
-keys_after (Usage k cause) states = keys_at_place reported_on (place_of k states) states (λ s. refl)
+keys_after (Usage k cause) states = keys_at_place reported_on (slot_place k states) states (λ s. refl)
 keys_after (Access t v) states = refl
 
 -- a write at a key's place is one at each state of this key, as keys are distinct
@@ -45,7 +45,7 @@ not_here f k (s ∷ states) h =
     rw (n.0, not_here f k states n.1) refl
 
 pub at_place_maps : (f : KeyState → KeyState) (k : List ℕ) (states : List KeyState) → Distinct (keys_of states) →
-    at_place (place_of k states) f states ≡ map (λ s. if same_name k s.key then f s else s) states
+    at_place (slot_place k states) f states ≡ map (λ s. if same_name k s.key then f s else s) states
 at_place_maps f k [] d = refl
 at_place_maps f k (s ∷ states) d =
     elim (cases_Bool (same_name k s.key)) [
@@ -104,7 +104,7 @@ one_usage p j n u k cause ts s f h =
     ]
 
 pub unreported_is : (p : Setting) (j : Journal) (ts : List PendingReport) (k : List ℕ) (states : List KeyState) → is_among k (keys_of states) ≡ true → AllByRecursion (Counts p j ts) states →
-    (state_at (place_of k states) states).unreported ≡ unreported p j k
+    (state_at (slot_place k states) states).unreported ≡ unreported p j k
 unreported_is p j ts k [] h a = cc
 unreported_is p j ts k (s ∷ states) h a =
     elim (cases_Bool (same_name k s.key)) [

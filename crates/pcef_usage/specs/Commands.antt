@@ -14,12 +14,12 @@ use Rattle.pcef_model.specs.Entries.{Journal}
 use Rattle.pcef_model.specs.Journals.{now, slots}
 use Rattle.pcef_model.specs.Reports.{plan}
 use Rattle.pcef_usage.specs.declared.usage.KeyState.{KeyState}
-use Rattle.pcef_usage.specs.Keys.{at_place, place_of, started, with_slot}
+use Rattle.pcef_usage.specs.Keys.{at_place, slot_place, started, with_slot}
 use Rattle.pcef_usage.specs.PendingReports.{ended}
 
 -- the key of a Monitor is started
 abbrev pub started_by : Command → List KeyState → List KeyState
-started_by (Monitor key amount level) states = at_place (place_of key states) (started amount) states
+started_by (Monitor key amount level) states = at_place (slot_place key states) (started amount) states
 started_by _ states = states
 
 -- the counters when a command is given: a key that it names has a slot, and the key of a Monitor is

@@ -20,9 +20,9 @@ abbrev pub has_slot : List ℕ → List KeyState → Bool
 has_slot key states = list_any (λ s. same_name key s.key) states
 
 -- the place of a key, or past the end
-abbrev pub place_of : List ℕ → List KeyState → ℕ
-place_of key [] = 0
-place_of key (s ∷ states) = if same_name key s.key then 0 else suc (place_of key states)
+abbrev pub slot_place : List ℕ → List KeyState → ℕ
+slot_place key [] = 0
+slot_place key (s ∷ states) = if same_name key s.key then 0 else suc (slot_place key states)
 
 abbrev pub fresh : List ℕ → Level → KeyState
 fresh key level = record { key = key; level = level; on = false; grant = None; reported = 0; unreported = 0 }
@@ -44,17 +44,17 @@ abbrev pub reported_on : KeyState → KeyState
 reported_on s = record s { reported = s.reported + s.unreported; unreported = 0 }
 
 -- a key that is on, with at least its grant unreported
-abbrev pub is_reached : KeyState → Bool
-is_reached s = s.on && is_reached_by s.grant s.unreported
+abbrev pub grant_is_reached : KeyState → Bool
+grant_is_reached s = s.on && is_reached_by s.grant s.unreported
 
 abbrev pub ungranted_if_reached : KeyState → KeyState
-ungranted_if_reached s = if is_reached s then ungranted s else s
+ungranted_if_reached s = if grant_is_reached s then ungranted s else s
 
 -- ---- all keys
 -- the places of the keys whose grants are reached
 abbrev pub reached_places : ℕ → List KeyState → List ℕ
 reached_places n [] = []
-reached_places n (s ∷ states) = if is_reached s then n ∷ reached_places (suc n) states else reached_places (suc n) states
+reached_places n (s ∷ states) = if grant_is_reached s then n ∷ reached_places (suc n) states else reached_places (suc n) states
 
 -- the states with the one at a place changed
 abbrev pub at_place : ℕ → (KeyState → KeyState) → List KeyState → List KeyState
@@ -73,14 +73,14 @@ with_slot None level states = states
 with_slot (Some key) level states = if has_slot key states then states else states ++ fresh key level ∷ []
 
 -- a key has a slot, and another level than this one
-abbrev pub clashes : Option (List ℕ) → Level → List KeyState → Bool
-clashes None level states = false
-clashes (Some key) level states = has_slot key states && not (same_level level (state_at (place_of key states) states).level)
+abbrev pub level_clashes : Option (List ℕ) → Level → List KeyState → Bool
+level_clashes None level states = false
+level_clashes (Some key) level states = has_slot key states && not (same_level level (state_at (slot_place key states) states).level)
 
 -- a key has no slot and there is none left
-abbrev pub finds_no_slot : Option (List ℕ) → List KeyState → Bool
-finds_no_slot None states = false
-finds_no_slot (Some key) states = not (has_slot key states) && nat_le most_keys (length states)
+abbrev pub finds_no_place : Option (List ℕ) → List KeyState → Bool
+finds_no_place None states = false
+finds_no_place (Some key) states = not (has_slot key states) && nat_le most_keys (length states)
 
 -- memory for one more key, where this one has no slot yet
 abbrev pub HasPlaceFor : Option (List ℕ) → ℕ → List (List ℕ) → Type 0
@@ -106,12 +106,12 @@ CanCount own octets states = AreSlotsBelow (length states) own × AllByRecursion
 
 -- the states with this key on, and with this grant
 abbrev pub with_started : List ℕ → ℕ → List KeyState → List KeyState
-with_started key amount states = at_place (place_of key states) (started amount) states
+with_started key amount states = at_place (slot_place key states) (started amount) states
 
 -- the slot of a key that has one, and none of another
 abbrev pub IsSlotOf : List ℕ → List KeyState → Option Slot → Type 0
 IsSlotOf key states slot =
-    MatchOption slot (has_slot key states ≡ false) (λ s. (has_slot key states ≡ true) × (s.0 ≡ place_of key states))
+    MatchOption slot (has_slot key states ≡ false) (λ s. (has_slot key states ≡ true) × (s.0 ≡ slot_place key states))
 
 -- the places of slots
 abbrev pub places_of : List Slot → List ℕ
@@ -119,4 +119,4 @@ places_of slots = map (λ s. s.0) slots
 
 -- a place, where it is reached
 abbrev pub place_if : Bool → ℕ → List ℕ
-place_if is_reached place = if is_reached then place ∷ [] else []
+place_if grant_is_reached place = if grant_is_reached then place ∷ [] else []

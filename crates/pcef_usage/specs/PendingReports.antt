@@ -14,16 +14,16 @@ use Rattle.pcef_model.specs.Commands.{is_among}
 use Rattle.pcef_model.specs.Entries.{Journal}
 use Rattle.pcef_model.specs.Journals.{counted, ends_grant, grant, now, report_count, reported}
 use Rattle.pcef_usage.specs.declared.usage.KeyState.{KeyState}
-use Rattle.pcef_usage.specs.Keys.{at_place, is_reached, place_of, reported_on, state_at, stopped, ungranted_if_reached}
+use Rattle.pcef_usage.specs.Keys.{at_place, grant_is_reached, slot_place, reported_on, state_at, stopped, ungranted_if_reached}
 
 -- ---- reporting by the counters
 abbrev pub body_by : List KeyState → PendingReport → Body
 body_by states (Inactive rule) = body.Inactive rule BearerLost
-body_by states (Usage key cause) = body.Usage key (state_at (place_of key states) states).unreported cause
+body_by states (Usage key cause) = body.Usage key (state_at (slot_place key states) states).unreported cause
 body_by states (Access kind value) = body.Access kind value
 
 abbrev pub after_report : PendingReport → List KeyState → List KeyState
-after_report (Usage key cause) states = at_place (place_of key states) reported_on states
+after_report (Usage key cause) states = at_place (slot_place key states) reported_on states
 after_report _ states = states
 
 -- the journal, and the counters, after these reports
@@ -45,7 +45,7 @@ KnowsAll keys ts = AllByRecursion (Knows keys) ts
 
 -- ---- keys that reports switch off
 abbrev pub after_stop : PendingReport → List KeyState → List KeyState
-after_stop (Usage key cause) states = if ends_grant cause then at_place (place_of key states) stopped states else states
+after_stop (Usage key cause) states = if ends_grant cause then at_place (slot_place key states) stopped states else states
 after_stop _ states = states
 
 -- the keys whose grants end are switched off
@@ -58,7 +58,7 @@ abbrev pub threshold : List ℕ → PendingReport
 threshold key = Usage key Threshold
 
 abbrev pub reached_reports : List KeyState → List PendingReport
-reached_reports states = map (λ s. threshold s.key) (filter is_reached states)
+reached_reports states = map (λ s. threshold s.key) (filter grant_is_reached states)
 
 -- the reports at the end of an event, and the states without the grants that these take, while there is a
 -- subscription
@@ -69,8 +69,8 @@ abbrev pub settled_states : Bool → List KeyState → List KeyState
 settled_states subscribed states = if subscribed then map ungranted_if_reached states else states
 
 -- the journal, and the counters, after the thresholds that are reached are reported
-abbrev pub with_thresholds : Bool → List KeyState → Journal → Journal
-with_thresholds subscribed states j = appended (threshold_reports subscribed states) (settled_states subscribed states) j
+abbrev pub thresholds_told : Bool → List KeyState → Journal → Journal
+thresholds_told subscribed states j = appended (threshold_reports subscribed states) (settled_states subscribed states) j
 
 abbrev pub after_thresholds : Bool → List KeyState → List KeyState
 after_thresholds subscribed states = after_reports (threshold_reports subscribed states) (settled_states subscribed states)

@@ -6,8 +6,8 @@ ghost use Rattle.pcef_model.specs.Commands.{is_among};
 ghost use Rattle.pcef_model.specs.Entries.{reports};
 ghost use Rattle.pcef_model.specs.Journals.{ends_grant};
 ghost use Rattle.pcef_usage.specs.Counted.{IsEvent};
-ghost use Rattle.pcef_usage.specs.Keys.{CanCount, HasPlaceFor, at_place, finds_no_slot, keys_of, place_of, reported_on, started, state_at, stopped, with_octets, with_slot, with_started};
-ghost use Rattle.pcef_usage.specs.PendingReports.{Knows, KnowsAll, after_stop, after_report, body_by, states_stopped, after_reports, thresholds_at, after_thresholds, with_report, with_thresholds, appended};
+ghost use Rattle.pcef_usage.specs.Keys.{CanCount, HasPlaceFor, at_place, finds_no_place, keys_of, slot_place, reported_on, started, state_at, stopped, with_octets, with_slot, with_started};
+ghost use Rattle.pcef_usage.specs.PendingReports.{Knows, KnowsAll, after_stop, after_report, body_by, states_stopped, after_reports, thresholds_at, after_thresholds, with_report, thresholds_told, appended};
 
 use crate::usage::{KeyPlaces, KeyState, Usage};
 use pcef_journal::Journal;
@@ -95,7 +95,7 @@ impl CountedJournal {
 
     /// Gives a key a slot at this level, unless it has one. Takes no memory but these places.
     pub fn keep_slot(&mut self, key: Option<&KeyName>, level: Level, places: KeyPlaces)
-        requires slot { finds_no_slot (option_copied key) self.old.states ≡ false }
+        requires slot { finds_no_place (option_copied key) self.old.states ≡ false }
         requires places { HasPlaceFor (option_copied key) places (keys_of self.old.states) }
         ensures journal { self.new.journal ≡ self.old.journal }
         ensures forgotten { self.new.forgotten ≡ self.old.forgotten }
@@ -152,7 +152,7 @@ impl CountedJournal {
     pub fn report_thresholds(&mut self, subscribed: bool)
         requires { length self.old.states ≤ self.old.room }
         ensures journal { self.new.journal
-            ≡ with_thresholds subscribed self.old.states self.old.journal }
+            ≡ thresholds_told subscribed self.old.states self.old.journal }
         ensures forgotten { self.new.forgotten ≡ self.old.forgotten }
         ensures states { self.new.states ≡ after_thresholds subscribed self.old.states }
         ensures room { self.old.room ≤ self.new.room + length self.old.states }
@@ -270,8 +270,8 @@ fn fill_in(usage: &mut Usage, pending: &PendingReport) -> Body
 
 fn take_octets(usage: &mut Usage, key: &KeyName) -> u64
     requires { is_among key.now (keys_of usage.old) ≡ true }
-    ensures octets { result ≡ (state_at (place_of key.now usage.old) usage.old).unreported }
-    ensures states { usage.new ≡ at_place (place_of key.now usage.old) reported_on usage.old }
+    ensures octets { result ≡ (state_at (slot_place key.now usage.old) usage.old).unreported }
+    ensures states { usage.new ≡ at_place (slot_place key.now usage.old) reported_on usage.old }
 {
     match usage.find(key) {
         Some(slot) => usage.take_report(slot),
@@ -281,7 +281,7 @@ fn take_octets(usage: &mut Usage, key: &KeyName) -> u64
 
 fn stop_key(usage: &mut Usage, key: &KeyName)
     requires { is_among key.now (keys_of usage.old) ≡ true }
-    ensures { usage.new ≡ at_place (place_of key.now usage.old) stopped usage.old }
+    ensures { usage.new ≡ at_place (slot_place key.now usage.old) stopped usage.old }
 {
     match usage.find(key) {
         Some(slot) => usage.stop(slot),
@@ -291,7 +291,7 @@ fn stop_key(usage: &mut Usage, key: &KeyName)
 
 fn start_key(usage: &mut Usage, key: &KeyName, amount: u64)
     requires { is_among key.now (keys_of usage.old) ≡ true }
-    ensures { usage.new ≡ at_place (place_of key.now usage.old) (started amount) usage.old }
+    ensures { usage.new ≡ at_place (slot_place key.now usage.old) (started amount) usage.old }
 {
     match usage.find(key) {
         Some(slot) => usage.start(slot, amount),

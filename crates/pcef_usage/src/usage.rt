@@ -2,7 +2,7 @@
 
 ghost use Rattle.std.specs.Prelude.{◌≡◌, ◌<◌, ◌≤◌, ◌+◌, ◌^◌, ◌↔◌, [], ◌++◌, ◌∷◌, map, length, true, false, IfOk, IsErr, OnErr, OnOk, Some, if◌then◌else◌, ◌≢◌, Err, Ok};
 ghost use Rattle.pcef_model.specs.Setting.{same_level};
-ghost use Rattle.pcef_usage.specs.Keys.{FitsMore, HasPlaceFor, IsSlotOf, added, at_place, clashes, finds_no_slot, fresh, has_slot, is_reached, keys_of, place_if, place_of, places_of, reached_places, reported_on, started, state_at, stopped, ungranted_if_reached, with_slot};
+ghost use Rattle.pcef_usage.specs.Keys.{FitsMore, HasPlaceFor, IsSlotOf, added, at_place, level_clashes, finds_no_place, fresh, has_slot, grant_is_reached, keys_of, place_if, slot_place, places_of, reached_places, reported_on, started, state_at, stopped, ungranted_if_reached, with_slot};
 
 use arrayvec::ArrayVec;
 use pcef_model::Level;
@@ -82,7 +82,7 @@ impl KeyState {
     }
 
     fn is_reached(&self) -> bool
-        ensures { result ≡ is_reached self.now }
+        ensures { result ≡ grant_is_reached self.now }
     {
         match self.grant {
             None => false,
@@ -92,7 +92,7 @@ impl KeyState {
 
     /// Takes the grant where it is reached, and returns whether it was.
     fn settle(&mut self) -> bool
-        ensures reached { result ≡ is_reached self.old }
+        ensures reached { result ≡ grant_is_reached self.old }
         ensures state { self.new ≡ ungranted_if_reached self.old }
     {
         let is_reached = self.is_reached();
@@ -195,7 +195,7 @@ impl Usage {
 
     /// Gives a key a slot at this level, unless it has one. Takes no memory but these places.
     pub fn keep_slot(&mut self, key: &KeyName, level: Level, places: KeyPlaces)
-        requires slot { finds_no_slot (Some key.now) self.old ≡ false }
+        requires slot { finds_no_place (Some key.now) self.old ≡ false }
         requires places { HasPlaceFor (Some key.now) places (keys_of self.old) }
         ensures { self.new ≡ with_slot (Some key.now) level self.old }
     {
@@ -224,11 +224,11 @@ impl Usage {
     /// [`SlotFault`], which changes nothing. Takes memory for a new key.
     pub fn slot(&mut self, key: &KeyName, level: Level) -> Result<Slot, SlotFault>
         ensures clash { (result ≡ Err SlotFault.LevelClash)
-            ↔ (clashes (Some key.now) level self.old ≡ true) }
+            ↔ (level_clashes (Some key.now) level self.old ≡ true) }
         ensures full { (result ≡ Err SlotFault.KeysFull)
-            ↔ (finds_no_slot (Some key.now) self.old ≡ true) }
+            ↔ (finds_no_place (Some key.now) self.old ≡ true) }
         ensures unchanged { OnErr result (self.new ≡ self.old) }
-        ensures slot { IfOk result (λ s. s.0 ≡ place_of key.now self.new) }
+        ensures slot { IfOk result (λ s. s.0 ≡ slot_place key.now self.new) }
         ensures states { OnOk result (self.new ≡ with_slot (Some key.now) level self.old) }
     {
         match self.find(key) {
@@ -253,7 +253,7 @@ impl Usage {
         requires { has_slot key.now self.old ≡ false }
         ensures clash { result ≢ Err SlotFault.LevelClash }
         ensures full { (result ≡ Err SlotFault.KeysFull)
-            ↔ (finds_no_slot (Some key.now) self.old ≡ true) }
+            ↔ (finds_no_place (Some key.now) self.old ≡ true) }
         ensures unchanged { OnErr result (self.new ≡ self.old) }
         ensures slot { IfOk result (λ s. s.0 ≡ length self.old) }
         ensures states { OnOk result (self.new ≡ self.old ++ fresh key.now level ∷ []) }

@@ -18,7 +18,7 @@ pub record WorkerModel : Type 0 where
   pub keeps : Bool
 
 -- a packet is judged by the table that is held, and its row waits; the rows of a worker are numbered from 0 on
-pub record Takes (p : Setting) (first : ℕ) (header : Header) (old new : WorkerModel) : Type 0 where
+pub record JudgesPacket (p : Setting) (first : ℕ) (header : Header) (old new : WorkerModel) : Type 0 where
   pub item : Item
   pub taken : IsTaken p first old.worker (length old.rows + length old.waiting) old.seen header item
   pub after : new ≡ record old { waiting = old.waiting ++ item ∷ [] }
@@ -27,9 +27,9 @@ pub record Takes (p : Setting) (first : ℕ) (header : Header) (old new : Worker
 abbrev pub flushed : WorkerModel → WorkerModel
 flushed w = record w { waiting = []; rows = w.rows ++ w.waiting }
 
--- what a worker that finished hands in: its last rows were handed over as it left
-abbrev pub finished : WorkerModel → HandedIn
-finished w = record { worker = w.worker; items = w.rows ++ w.waiting; keeps = w.keeps; leaving = Finished (length w.waiting) }
+-- what a worker that finished_hand_in hands in: its last rows were handed over as it left
+abbrev pub finished_hand_in : WorkerModel → HandedIn
+finished_hand_in w = record { worker = w.worker; items = w.rows ++ w.waiting; keeps = w.keeps; leaving = Finished (length w.waiting) }
 
 -- what a worker that left with rows waiting hands in
 abbrev pub abandoned : WorkerModel → HandedIn

@@ -4,7 +4,7 @@ ghost use Rattle.std.specs.Prelude.{◌≡◌, ◌⊎◌, ◌++◌, ◌≤◌, �
 ghost use Rattle.pcef_model.specs.declared.answer.FlushRefusal.TheVariants.{NoMemory};
 ghost use Rattle.pcef_lock.specs.HandedIn.{finished_with};
 ghost use Rattle.pcef_lock.specs.Outcomes.{IsDueToRows, judged_rows};
-ghost use Rattle.pcef_worker.specs.Working.{abandoned, finished, flushed};
+ghost use Rattle.pcef_worker.specs.Working.{abandoned, finished_hand_in, flushed};
 
 use crate::gate::{Gate, Point};
 use crate::worker::Worker;
@@ -103,7 +103,7 @@ impl<C: Detects + Drop, N: Naming, G: Gate + Drop> Worker<C, N, G> {
         rt: &R,
         shared: &Shared<C, N, W, P>,
     ) -> Result<(Finished<N>, Verdicts), (Worker<C, N, G>, FlushRefusal)>
-        ensures left { IfOk result (λ r. r.0 ≡ finished self) }
+        ensures left { IfOk result (λ r. r.0 ≡ finished_hand_in self) }
         ensures verdicts { IfOk result (λ r. r.1.rows.items ≡ judged_rows self.waiting) }
         ensures back { IfErr result (λ e. e.0 ≡ self) }
     {

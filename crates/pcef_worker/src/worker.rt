@@ -2,7 +2,7 @@
 
 ghost use Rattle.std.specs.Prelude.{◌≡◌, ◌≤◌, ◌+◌, [], IfErr, IfOk, IfSome, OnErr, OnOk, false, is_some, length, true};
 ghost use mathlib.Core.List.{IsPrefix};
-ghost use Rattle.pcef_worker.specs.Working.{Takes};
+ghost use Rattle.pcef_worker.specs.Working.{JudgesPacket};
 
 use crate::gate::Gate;
 use pcef_catalog::{Detects, Offers};
@@ -182,7 +182,7 @@ impl<C: Detects + Drop, N: Naming, G: Gate + Drop> Worker<C, N, G> {
     /// Judges a packet by the table that is held, and lets its row wait; or refuses it where 32 rows wait, which
     /// changes nothing. Takes no lock and no memory, and doesn't wait.
     pub fn take(&mut self, header: &Header) -> Result<(), BatchFull>
-        ensures takes { OnOk result (Takes N.setting N.first header.now self.old self.new) }
+        ensures takes { OnOk result (JudgesPacket N.setting N.first header.now self.old self.new) }
         ensures full { OnErr result (32 ≤ length self.old.waiting) }
         ensures same { OnErr result (self.new ≡ self.old) }
     {

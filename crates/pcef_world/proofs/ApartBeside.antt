@@ -29,7 +29,7 @@ use Rattle.pcef_world.specs.declared.apart.ApartWorker.{ApartWorker}
 use Rattle.pcef_world.specs.Apart.{AbandonsApart, FinishesApart, FlushesApart, IsApart, IsNewApart}
 use Rattle.pcef_world.specs.ApartLaws.{IsKept}
 use Rattle.pcef_world.specs.Steps.{MakesStep, Reply, Standing, abandon_step, attach_step, finish_step, finished, flush_step, handed_over, most_waiting, new_worker, refresh_step, standing_of, step_outcome, take_step, with_generation, with_journal, with_none, with_place}
-use Rattle.pcef_world.specs.Worlds.{AreInTurn, Waiting, World, if_there, worker_at}
+use Rattle.pcef_world.specs.Worlds.{AreInTurn, Waiting, World, waiting_if_there, waiting_at}
 use Rattle.pcef_world.proofs.WorkersWait.{waits_later}
 use Rattle.pcef_world.proofs.WrittenLists.{get_before, get_beside}
 
@@ -103,10 +103,10 @@ beside_attach p n s place counted empty =
 
 -- ---- a step
 -- a worker that is there has another number
-differs_from : (s : Standing) (n m : ℕ) (w : Waiting) → worker_at s.workers m ≡ Some w → slice_get s.workers n ≡ Some None → n ≡ m → ⊥
+differs_from : (s : Standing) (n m : ℕ) (w : Waiting) → waiting_at s.workers m ≡ Some w → slice_get s.workers n ≡ Some None → n ≡ m → ⊥
 differs_from s n m w there empty same =
     let at_m : slice_get s.workers m ≡ Some None = subst (λ i. slice_get s.workers i ≡ Some None) same empty in
-    let none : worker_at s.workers m ≡ None = ap if_there at_m in
+    let none : waiting_at s.workers m ≡ None = ap waiting_if_there at_m in
     let both : Some w ≡ None = sym there ∙ none in
     cc
 
@@ -128,17 +128,17 @@ attach_beside p n s counted empty = from (first_of (attach_faults s.journal))
     from (Some fault) = beside_same p n s
     from None = beside_attach p n s (Some (new_worker s.journal)) counted empty
 
-take_beside : (p : Setting) (n m : ℕ) (s : Standing) (header : Header) (o : Option Waiting) → worker_at s.workers m ≡ o → slice_get s.workers n ≡ Some None → Beside p n s (take_step p s m header o).1
+take_beside : (p : Setting) (n m : ℕ) (s : Standing) (header : Header) (o : Option Waiting) → waiting_at s.workers m ≡ o → slice_get s.workers n ≡ Some None → Beside p n s (take_step p s m header o).1
 take_beside p n m s header None there empty = beside_same p n s
 take_beside p n m s header (Some w) there empty =
     cond_both (nat_le most_waiting (length w.rows)) _ _ (λ (x : Reply × Standing). Beside p n s x.1)
     (λ _. beside_same p n s) (λ _. beside_place p n m s s _ (differs_from s n m w there empty) (beside_same p n s))
 
-refresh_beside : (p : Setting) (n m : ℕ) (s : Standing) (o : Option Waiting) → worker_at s.workers m ≡ o → slice_get s.workers n ≡ Some None → Beside p n s (refresh_step s m o).1
+refresh_beside : (p : Setting) (n m : ℕ) (s : Standing) (o : Option Waiting) → waiting_at s.workers m ≡ o → slice_get s.workers n ≡ Some None → Beside p n s (refresh_step s m o).1
 refresh_beside p n m s None there empty = beside_same p n s
 refresh_beside p n m s (Some w) there empty = beside_place p n m s s (Some (with_generation (gen s.journal) w)) (differs_from s n m w there empty) (beside_same p n s)
 
-flush_beside : (p : Setting) (n m : ℕ) (s : Standing) (o : Option Waiting) → AreInTurn p s.journal s.workers → worker_at s.workers m ≡ o → slice_get s.workers n ≡ Some None → Beside p n s (flush_step p s m o).1
+flush_beside : (p : Setting) (n m : ℕ) (s : Standing) (o : Option Waiting) → AreInTurn p s.journal s.workers → waiting_at s.workers m ≡ o → slice_get s.workers n ≡ Some None → Beside p n s (flush_step p s m o).1
 unfolding flush_outcome
 flush_beside p n m s None in_turn there empty = beside_same p n s
 flush_beside p n m s (Some w) in_turn there empty = from (first_of (flush_refusals p s.journal m (length w.rows)))
@@ -149,7 +149,7 @@ flush_beside p n m s (Some w) in_turn there empty = from (first_of (flush_refusa
         let differ : n ≡ m → ⊥ = differs_from s n m w there empty in
         beside_place p n m s (with_journal (after_flush p s.journal w.rows) s) (Some (with_none w)) differ (beside_flush p n m s w.rows differ (in_turn m w there).follow.own)
 
-finish_beside : (p : Setting) (n m : ℕ) (s : Standing) (o : Option Waiting) → AreInTurn p s.journal s.workers → worker_at s.workers m ≡ o → slice_get s.workers n ≡ Some None → Beside p n s (finish_step p s m o).1
+finish_beside : (p : Setting) (n m : ℕ) (s : Standing) (o : Option Waiting) → AreInTurn p s.journal s.workers → waiting_at s.workers m ≡ o → slice_get s.workers n ≡ Some None → Beside p n s (finish_step p s m o).1
 unfolding finish_outcome
 finish_beside p n m s None in_turn there empty = beside_same p n s
 finish_beside p n m s (Some w) in_turn there empty = from (first_of (flush_refusals p s.journal m (length w.rows)))
@@ -162,7 +162,7 @@ finish_beside p n m s (Some w) in_turn there empty = from (first_of (flush_refus
         beside_place p n m s (with_journal (after_leave m after.journal) after) None differ
         (beside_leave p n m s after differ (beside_flush p n m s w.rows differ (in_turn m w there).follow.own))
 
-abandon_beside : (p : Setting) (n m : ℕ) (s : Standing) (o : Option Waiting) → worker_at s.workers m ≡ o → slice_get s.workers n ≡ Some None → Beside p n s (abandon_step s m o).1
+abandon_beside : (p : Setting) (n m : ℕ) (s : Standing) (o : Option Waiting) → waiting_at s.workers m ≡ o → slice_get s.workers n ≡ Some None → Beside p n s (abandon_step s m o).1
 abandon_beside p n m s None there empty = beside_same p n s
 abandon_beside p n m s (Some w) there empty =
     let differ : n ≡ m → ⊥ = differs_from s n m w there empty in
@@ -172,11 +172,11 @@ step_beside : (p : Setting) (n : ℕ) (s : Standing) (step : Step) → attach_co
 unfolding step_outcome
 step_beside p n s (of.Command c) counted in_turn empty = command_beside p n s c
 step_beside p n s of.Attach counted in_turn empty = attach_beside p n s counted empty
-step_beside p n s (of.Take m header) counted in_turn empty = take_beside p n m s header (worker_at s.workers m) refl empty
-step_beside p n s (of.Refresh m) counted in_turn empty = refresh_beside p n m s (worker_at s.workers m) refl empty
-step_beside p n s (of.Flush m) counted in_turn empty = flush_beside p n m s (worker_at s.workers m) in_turn refl empty
-step_beside p n s (of.Finish m) counted in_turn empty = finish_beside p n m s (worker_at s.workers m) in_turn refl empty
-step_beside p n s (of.Abandon m) counted in_turn empty = abandon_beside p n m s (worker_at s.workers m) refl empty
+step_beside p n s (of.Take m header) counted in_turn empty = take_beside p n m s header (waiting_at s.workers m) refl empty
+step_beside p n s (of.Refresh m) counted in_turn empty = refresh_beside p n m s (waiting_at s.workers m) refl empty
+step_beside p n s (of.Flush m) counted in_turn empty = flush_beside p n m s (waiting_at s.workers m) in_turn refl empty
+step_beside p n s (of.Finish m) counted in_turn empty = finish_beside p n m s (waiting_at s.workers m) in_turn refl empty
+step_beside p n s (of.Abandon m) counted in_turn empty = abandon_beside p n m s (waiting_at s.workers m) refl empty
 
 -- ---- the laws
 pub stays_beside_the_same : (v w : World) (a : ApartWorker) → standing_of w ≡ standing_of v → w.session.setting ≡ v.session.setting → IsApart v a → IsApart w a

@@ -23,7 +23,7 @@ use Rattle.pcef_session.specs.SessionModel.{SessionModel}
 use Rattle.pcef_session.specs.Shown.{Shows}
 use Rattle.pcef_world.specs.declared.apart.ApartWorker.{ApartWorker}
 use Rattle.pcef_world.specs.declared.worker.WorldWorker.{WorldWorker}
-use Rattle.pcef_world.specs.Worlds.{Waiting, World, if_there, worker_at}
+use Rattle.pcef_world.specs.Worlds.{Waiting, World, waiting_if_there, waiting_at}
 use Rattle.pcef_packet.specs.declared.header.Header.{Header}
 use Rattle.pcef_session.specs.declared.batch.BatchFull.{BatchFull}
 use Rattle.pcef_world.specs.Apart.{FlushesApart, IsApart, IsNewApart, IsRefreshed, TakesApart, LacksApart}
@@ -43,10 +43,10 @@ world_with s workers = record { session = s; workers = shown workers }
 
 -- ---- numbers
 -- a worker that is there has another number than one whose place is empty
-pub other_number : (workers : List (Option WorldWorker)) (m n : ℕ) (w : WorldWorker) → slice_get workers m ≡ Some (Some w) → worker_at (shown workers) n ≡ None → m ≡ n → ⊥
+pub other_number : (workers : List (Option WorldWorker)) (m n : ℕ) (w : WorldWorker) → slice_get workers m ≡ Some (Some w) → waiting_at (shown workers) n ≡ None → m ≡ n → ⊥
 other_number workers m n w there none same =
     let at_n : slice_get workers n ≡ Some (Some w) = subst (λ i. slice_get workers i ≡ Some (Some w)) same there in
-    let seen_there : worker_at (shown workers) n ≡ Some (seen w) = ap if_there (get_mapped (option_map seen) workers n ∙ ap (option_map (option_map seen)) at_n) in
+    let seen_there : waiting_at (shown workers) n ≡ Some (seen w) = ap waiting_if_there (get_mapped (option_map seen) workers n ∙ ap (option_map (option_map seen)) at_n) in
     absurd (let both : None ≡ Some (seen w) = sym none ∙ seen_there in cc)
 
 -- a worker that is there has a number that was given before
@@ -121,7 +121,7 @@ sound_flushed_apart s t workers a (Ok v) sound apart flushes setting =
       few_rows = rw setting sound.few_rows;
       wait = subst (λ q. AllWait q t.journal workers) (sym setting)
           (λ m x there.
-          waits_beside p s.journal t.journal m a.worker.number rs x (sound.wait m x there) (ne_eqb a.worker.number m (λ e. other_number workers m a.worker.number x there (ap if_there apart.place_is) (sym e))) apart.waits.follow.own done.1);
+          waits_beside p s.journal t.journal m a.worker.number rs x (sound.wait m x there) (ne_eqb a.worker.number m (λ e. other_number workers m a.worker.number x there (ap waiting_if_there apart.place_is) (sym e))) apart.waits.follow.own done.1);
     }
 
 -- ---- it leaves
@@ -136,7 +136,7 @@ sound_abandoned_apart s t workers a sound apart is setting =
       few_rows = rw setting sound.few_rows;
       wait = subst (λ q. AllWait q t.journal workers) (sym setting)
           (subst (λ (k : Journal). AllWait p k workers) (sym is)
-          (λ m x there. waits_left p s.journal m a.worker.number x (other_number workers m a.worker.number x there (ap if_there apart.place_is)) (sound.wait m x there)));
+          (λ m x there. waits_left p s.journal m a.worker.number x (other_number workers m a.worker.number x there (ap waiting_if_there apart.place_is)) (sound.wait m x there)));
     }
 
 -- with its last rows
@@ -157,7 +157,7 @@ sound_finished_apart s t workers a (Ok v) sound apart finishes setting =
       wait = subst (λ q. AllWait q t.journal workers) (sym setting)
           (subst (λ (k : Journal). AllWait p k workers) (sym done.1)
           (λ m x there.
-          let other = other_number workers m a.worker.number x there (ap if_there apart.place_is) in
+          let other = other_number workers m a.worker.number x there (ap waiting_if_there apart.place_is) in
           waits_left p after m a.worker.number x other
           (waits_beside p s.journal after m a.worker.number rs x (sound.wait m x there) (ne_eqb a.worker.number m (λ e. other (sym e))) apart.waits.follow.own refl)));
     }

@@ -15,7 +15,7 @@ use Rattle.pcef_model.specs.Reports.{after_command}
 use Rattle.pcef_model.specs.Refusals.{attach_faults, first_of, flush_refusals, refusals}
 use Rattle.pcef_world.specs.Steps.{MakesStep, Plays, Reply, Standing, abandon_reply, attach_reply, command_reply, finish_reply, flush_reply, no_worker, refresh_reply, NamesKept, abandon_step, attach_step, command_step, finish_step, finished, flush_step, handed_over, most_waiting, refresh_step, reply_of, row_taken, standing_of, step_outcome, take_reply, take_step, with_place, with_row}
 use Rattle.pcef_world.specs.declared.answer.StepAnswer.{StepAnswer}
-use Rattle.pcef_world.specs.Worlds.{Waiting, World, worker_at}
+use Rattle.pcef_world.specs.Worlds.{Waiting, World, waiting_at}
 
 module _ (p : Setting) (s : Standing) (forgotten : ℕ) (kept : forgotten ≤ report_count s.journal) where
   told_of_command : (c : Command) (refused : Option Refusal) → NamesKept forgotten (command_step s (command_outcome_by p s.journal c refused)).0
@@ -74,11 +74,11 @@ module _ (p : Setting) (s : Standing) (forgotten : ℕ) (kept : forgotten ≤ re
   unfolding step_outcome command_outcome attach_outcome
   names_kept (of.Command c) = told_of_command c (first_of (refusals p s.journal c))
   names_kept of.Attach = told_of_attach (first_of (attach_faults s.journal))
-  names_kept (of.Take worker header) = told_of_take worker header (worker_at s.workers worker)
-  names_kept (of.Refresh worker) = told_of_refresh worker (worker_at s.workers worker)
-  names_kept (of.Flush worker) = told_of_flush worker (worker_at s.workers worker)
-  names_kept (of.Finish worker) = told_of_finish worker (worker_at s.workers worker)
-  names_kept (of.Abandon worker) = told_of_abandon worker (worker_at s.workers worker)
+  names_kept (of.Take worker header) = told_of_take worker header (waiting_at s.workers worker)
+  names_kept (of.Refresh worker) = told_of_refresh worker (waiting_at s.workers worker)
+  names_kept (of.Flush worker) = told_of_flush worker (waiting_at s.workers worker)
+  names_kept (of.Finish worker) = told_of_finish worker (waiting_at s.workers worker)
+  names_kept (of.Abandon worker) = told_of_abandon worker (waiting_at s.workers worker)
 
 -- a step that a world makes is one of any world that stands so
 pub made_same : (u v w : World) (step : Step) (a : StepAnswer) → u.session.setting ≡ v.session.setting → standing_of u ≡ standing_of v →

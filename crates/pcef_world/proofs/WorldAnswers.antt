@@ -38,7 +38,7 @@ use Rattle.pcef_world.specs.Workers.{IsJudged, Waits, after_flushing, held_by, w
 use Rattle.pcef_world.specs.Steps.{Lacks, Plays, Reply, Standing, abandon_reply, attach_step, finished, handed_over, is_error, is_refusal, reply_of, row_taken, standing_of, step_outcome, take_reply, take_step, with_generation, with_none, with_place, with_row}
 use Rattle.pcef_model.proofs.JournalExtends.{attached_not, flushed_not}
 use Rattle.pcef_session.proofs.Leaving.{finished_not}
-use Rattle.pcef_world.specs.Worlds.{Waiting, World, if_there, worker_at}
+use Rattle.pcef_world.specs.Worlds.{Waiting, World, waiting_if_there, waiting_at}
 use Rattle.pcef_world.proofs.WantOfMemory.{attach_given, attach_lacking, command_given, command_lacking, finish_given, finish_lacking, flush_given, flush_lacking}
 use Rattle.pcef_world.proofs.WorkersWait.{row_made}
 use Rattle.pcef_world.proofs.WrittenLists.{get_mapped, set_mapped, set_same}
@@ -51,12 +51,12 @@ past_from i n none = elim (cases_lt i n) [ inl less ↦ absurd (false≢true (no
 abbrev pub all_seen : List (Option WorldWorker) → List (Option Waiting)
 all_seen workers = map (option_map seen) workers
 
-seen_at : (workers : List (Option WorldWorker)) (i : ℕ) (o : Option WorldWorker) → slice_get workers i ≡ Some o → worker_at (all_seen workers) i ≡ option_map seen o
-seen_at workers i o there = ap if_there (get_mapped (option_map seen) workers i ∙ ap (option_map (option_map seen)) there)
+seen_at : (workers : List (Option WorldWorker)) (i : ℕ) (o : Option WorldWorker) → slice_get workers i ≡ Some o → waiting_at (all_seen workers) i ≡ option_map seen o
+seen_at workers i o there = ap waiting_if_there (get_mapped (option_map seen) workers i ∙ ap (option_map (option_map seen)) there)
 
 -- past the last place there is none
-seen_past : (workers : List (Option WorldWorker)) (i : ℕ) → length workers ≤ i → worker_at (all_seen workers) i ≡ None
-seen_past workers i past = ap if_there (get_mapped (option_map seen) workers i ∙ ap (option_map (option_map seen)) (slice_get_past workers i past))
+seen_past : (workers : List (Option WorldWorker)) (i : ℕ) → length workers ≤ i → waiting_at (all_seen workers) i ≡ None
+seen_past workers i past = ap waiting_if_there (get_mapped (option_map seen) workers i ∙ ap (option_map (option_map seen)) (slice_get_past workers i past))
 
 -- a place that stays as it is leaves the list as callers see it
 seen_same : (workers : List (Option WorldWorker)) (i : ℕ) (o new : Option WorldWorker) → slice_get workers i ≡ Some o → new ≡ o → all_seen (slice_set workers i new) ≡ all_seen workers
@@ -196,7 +196,7 @@ takes_answer s workers i o new offers ue header handed_over out sound there offe
     as_steps out (subst (λ x. TakesAs s workers i header x out (slice_set workers i new)) (sym (seen_at workers i o there))
     (taken_as s workers i o new header out sound there own))
   where
-    as_steps : (out : Result StepAnswer AllocError) → TakesAs s workers i header (worker_at (all_seen workers) i) out (slice_set workers i new) →
+    as_steps : (out : Result StepAnswer AllocError) → TakesAs s workers i header (waiting_at (all_seen workers) i) out (slice_set workers i new) →
         Steps s.setting (stand s.journal workers) (of.Take i header) out (stand s.journal (slice_set workers i new))
     as_steps (Ok a) is = is
     as_steps (Err lack) is = is

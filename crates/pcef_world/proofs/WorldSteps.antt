@@ -27,7 +27,7 @@ use Rattle.pcef_model.specs.Refusals.{first_of, flush_refusals, is_attached}
 use Rattle.pcef_world.specs.private.Places.{AbandonsAt, FinishesAt, FlushesAt, RefreshesAt, TakesAt}
 use Rattle.pcef_world.specs.Workers.{AllWait, MayHandOver, Waits, held_by}
 use Rattle.pcef_world.specs.private.Soundness.{IsSoundWith, seen}
-use Rattle.pcef_world.specs.Worlds.{AreInTurn, IsInTurn, if_there}
+use Rattle.pcef_world.specs.Worlds.{AreInTurn, IsInTurn, waiting_if_there}
 use Rattle.pcef_world.specs.declared.answer.StepAnswer.{StepAnswer}
 use Rattle.std.specs.declared.alloc.AllocError.{AllocError}
 use Rattle.pcef_world.proofs.WrittenLists.{get_beside, get_mapped, get_pushed, get_written, set_same, set_twice}
@@ -73,9 +73,9 @@ all_push p k workers new all here = λ m w there.
 
 -- what callers see of workers
 pub all_in_turn : (p : Setting) (j : Journal) (workers : List (Option WorldWorker)) → AllWait p j workers → AreInTurn p j (map (option_map seen) workers)
-all_in_turn p j workers all = λ i x there. from i (slice_get workers i) refl x (sym (ap if_there (get_mapped (option_map seen) workers i)) ∙ there)
+all_in_turn p j workers all = λ i x there. from i (slice_get workers i) refl x (sym (ap waiting_if_there (get_mapped (option_map seen) workers i)) ∙ there)
   where
-    from : (i : ℕ) (o : Option (Option WorldWorker)) → slice_get workers i ≡ o → (x : Waiting) → if_there (option_map (option_map seen) o) ≡ Some x → IsInTurn p j i x
+    from : (i : ℕ) (o : Option (Option WorldWorker)) → slice_get workers i ≡ o → (x : Waiting) → waiting_if_there (option_map (option_map seen) o) ≡ Some x → IsInTurn p j i x
     from i None at x is = absurd cc
     from i (Some None) at x is = absurd cc
     from i (Some (Some w)) at x is =

@@ -43,9 +43,9 @@ abbrev pub LacksApart : ApartWorker → ApartWorker → Type 0
 LacksApart old new = (length old.worker.waiting < 32) × (new ≡ old)
 
 -- the number of a worker that was attached
-abbrev pub number_of : Result ApartWorker AttachFault → Result ℕ AttachFault
-number_of (Ok a) = Ok a.worker.number
-number_of (Err fault) = Err fault
+abbrev pub worker_number : Result ApartWorker AttachFault → Result ℕ AttachFault
+worker_number (Ok a) = Ok a.worker.number
+worker_number (Err fault) = Err fault
 
 -- a worker that was attached just now
 pub record IsNewApart (before after : World) (a : ApartWorker) : Type 0 where

@@ -18,7 +18,7 @@ use Rattle.pcef_session.specs.declared.batch.BatchFull.{BatchFull}
 use Rattle.pcef_world.specs.declared.answer.Abandoned.{Abandoned}
 use Rattle.pcef_world.specs.declared.answer.StepAnswer.{StepAnswer}
 use Rattle.pcef_world.specs.declared.answer.StepAnswer.TheVariants as answer
-use Rattle.pcef_world.specs.Worlds.{Waiting, World, worker_at}
+use Rattle.pcef_world.specs.Worlds.{Waiting, World, waiting_at}
 
 -- how a session and its workers stand: its journal, and a place for each worker that was ever
 -- attached
@@ -171,11 +171,11 @@ abandon_step s worker (Some w) =
 unfoldable pub step_outcome : Setting → Standing → Step → Reply × Standing
 step_outcome p s (of.Command c) = command_step s (command_outcome p s.journal c)
 step_outcome p s of.Attach = attach_step s (attach_outcome s.journal)
-step_outcome p s (of.Take worker header) = take_step p s worker header (worker_at s.workers worker)
-step_outcome p s (of.Refresh worker) = refresh_step s worker (worker_at s.workers worker)
-step_outcome p s (of.Flush worker) = flush_step p s worker (worker_at s.workers worker)
-step_outcome p s (of.Finish worker) = finish_step p s worker (worker_at s.workers worker)
-step_outcome p s (of.Abandon worker) = abandon_step s worker (worker_at s.workers worker)
+step_outcome p s (of.Take worker header) = take_step p s worker header (waiting_at s.workers worker)
+step_outcome p s (of.Refresh worker) = refresh_step s worker (waiting_at s.workers worker)
+step_outcome p s (of.Flush worker) = flush_step p s worker (waiting_at s.workers worker)
+step_outcome p s (of.Finish worker) = finish_step p s worker (waiting_at s.workers worker)
+step_outcome p s (of.Abandon worker) = abandon_step s worker (waiting_at s.workers worker)
 
 -- the answer is due, and all stands as it is due
 abbrev pub Plays : Setting → Standing → Step → StepAnswer → Standing → Type 0

@@ -44,9 +44,9 @@ TakesItem offers ue header handed_over old (Ok count) new =
 TakesItem offers ue header handed_over old (Err full) new = (32 ≤ length old.waiting) × (new ≡ old)
 
 -- how many rows wait then
-abbrev pub counted : Result Taken BatchFull → Result ℕ BatchFull
-counted (Ok taken) = Ok taken.waiting
-counted (Err full) = Err full
+abbrev pub waiting_count : Result Taken BatchFull → Result ℕ BatchFull
+waiting_count (Ok taken) = Ok taken.waiting
+waiting_count (Err full) = Err full
 
 -- the place of the rule that the row names which waits last
 abbrev pub PlacesLast : List Offer → WorldWorker → Option ℕ → Type 0

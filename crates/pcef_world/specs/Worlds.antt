@@ -19,13 +19,13 @@ pub record World : Type 0 where
   pub session : SessionModel
   pub workers : List (Option Waiting)
 
-abbrev pub if_there : Option (Option Waiting) → Option Waiting
-if_there None = None
-if_there (Some place) = place
+abbrev pub waiting_if_there : Option (Option Waiting) → Option Waiting
+waiting_if_there None = None
+waiting_if_there (Some place) = place
 
 -- the worker of a number, if it is there
-abbrev pub worker_at : List (Option Waiting) → ℕ → Option Waiting
-worker_at workers number = if_there (slice_get workers number)
+abbrev pub waiting_at : List (Option Waiting) → ℕ → Option Waiting
+waiting_at workers number = waiting_if_there (slice_get workers number)
 
 -- an attached worker that holds a generation of the journal, and whose rows may come next
 pub record IsInTurn (p : Setting) (j : Journal) (number : ℕ) (w : Waiting) : Type 0 where
@@ -34,7 +34,7 @@ pub record IsInTurn (p : Setting) (j : Journal) (number : ℕ) (w : Waiting) : T
   pub follow : BatchFollows p j number w.rows
 
 abbrev pub AreInTurn : Setting → Journal → List (Option Waiting) → Type 0
-AreInTurn p j workers = (number : ℕ) (w : Waiting) → worker_at workers number ≡ Some w → IsInTurn p j number w
+AreInTurn p j workers = (number : ℕ) (w : Waiting) → waiting_at workers number ≡ Some w → IsInTurn p j number w
 
 -- the workers of a world are so attached, and their rows may come next
 abbrev pub HasWorkersInTurn : World → Type 0

@@ -3,7 +3,7 @@
 ghost use Rattle.std.specs.Prelude.{◌≡◌, ◌≢◌, Err, IfErr, IfOk};
 ghost use Rattle.pcef_model.specs.declared.answer.Refusal.TheVariants.{NoMemory};
 ghost use Rattle.pcef_world.specs.declared.answer.StepAnswer.TheVariants as step;
-ghost use Rattle.pcef_world.specs.Workers.{counted};
+ghost use Rattle.pcef_world.specs.Workers.{waiting_count};
 ghost use Rattle.pcef_world.specs.private.Places.{attach_step_answer, finish_step_answer, flush_step_answer};
 
 use crate::worker::Taken;
@@ -56,7 +56,7 @@ pub(crate) fn command_step_answer(
 
 /// The answer to a packet: how many rows wait then.
 pub(crate) fn take_step_answer(answer: Result<Taken, BatchFull>) -> StepAnswer
-    ensures { result ≡ step.Take (counted answer) }
+    ensures { result ≡ step.Take (waiting_count answer) }
 {
     match answer {
         Ok(taken) => StepAnswer::Take(Ok(taken.waiting)),

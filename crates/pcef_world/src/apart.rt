@@ -4,10 +4,10 @@
 ghost use Rattle.std.specs.Prelude.{◌≡◌, ◌≤◌, IfOk, OnErr};
 ghost use Rattle.pcef_table.specs.Tables.{IsTable};
 ghost use Rattle.pcef_world.specs.Steps.{standing_of};
-ghost use Rattle.pcef_world.specs.Apart.{AbandonsApart, FinishesApart, FlushesApart, IsApart, IsNewApart, IsRefreshed, LacksApart, TakesApart, held_apart, number_of};
+ghost use Rattle.pcef_world.specs.Apart.{AbandonsApart, FinishesApart, FlushesApart, IsApart, IsNewApart, IsRefreshed, LacksApart, TakesApart, held_apart, worker_number};
 ghost use Rattle.pcef_model.specs.Outcomes.{AttachStep};
 ghost use Rattle.pcef_world.specs.ApartLaws.{StaysBesideComing, StaysBesideFinishing, StaysBesideFlushes, StaysBesideLeaving, StaysBesideSteps, StaysBesideTheSame, StaysByRefreshing, StaysByTaking};
-ghost use Rattle.pcef_world.specs.Workers.{PlacesLast, counted};
+ghost use Rattle.pcef_world.specs.Workers.{PlacesLast, waiting_count};
 ghost use Rattle.pcef_flow.specs.Flows.{Remembers};
 
 use crate::answer::Abandoned;
@@ -69,7 +69,7 @@ impl ApartWorker {
         requires remembers { Remembers (C.offers catalog.now) (held_apart self.old).entries self.old.ue flows.old }
         requires few { self.old.handed_over ≤ 4294967295 }
         ensures taken { IfOk result (λ answer. TakesApart (C.offers catalog.now) header.now self.old
-            (counted answer) self.new) }
+            (waiting_count answer) self.new) }
         ensures place { IfOk result (λ answer. IfOk answer (λ taken. PlacesLast (C.offers catalog.now)
             self.new.worker taken.place)) }
         ensures lacks { OnErr result (LacksApart self.old self.new) }
@@ -84,7 +84,7 @@ impl WorldState {
     /// Attaches a worker that stands apart: it holds the newest table, and no row waits. Its place among the session's
     /// own workers is empty, so that no step has its number.
     pub fn attach_apart(&mut self) -> Result<ApartWorker, AttachFault>
-        ensures answer { AttachStep self.old.session.journal (number_of result) self.new.session.journal }
+        ensures answer { AttachStep self.old.session.journal (worker_number result) self.new.session.journal }
         ensures apart { IfOk result (λ a. IsNewApart self.old self.new a) }
         ensures refused { OnErr result (standing_of self.new ≡ standing_of self.old) }
         ensures setting { self.new.session.setting ≡ self.old.session.setting }

@@ -3,9 +3,9 @@
 ghost use Rattle.std.specs.Prelude.{◌≡◌, ◌≤◌, ◌<◌, ◌+◌, IfOk, Ok, OnErr, OnOk, length};
 ghost use Rattle.pcef_table.specs.Tables.{IsTable};
 ghost use Rattle.pcef_table.specs.Verdicts.{IsPlaced};
-ghost use Rattle.pcef_session.specs.Answers.{AnswersFinish, AnswersFlush, MayFollow};
+ghost use Rattle.pcef_session.specs.Answers.{AnswersFinish, AnswersFlush, MayComeNext};
 ghost use Rattle.pcef_session.specs.Following.{HasItsSlots};
-ghost use Rattle.pcef_world.specs.Workers.{IsJudged, LacksForItem, PlacesLast, TakesItem, after_flushing, counted, held_by, with_item};
+ghost use Rattle.pcef_world.specs.Workers.{IsJudged, LacksForItem, PlacesLast, TakesItem, after_flushing, waiting_count, held_by, with_item};
 ghost use Rattle.pcef_flow.specs.Flows.{Remembers};
 
 use pcef_catalog::Detects;
@@ -143,7 +143,7 @@ impl WorldWorker {
         requires table { IsTable (C.offers catalog.now) (held_by self.old).entries }
         requires few { handed_over ≤ 4294967295 }
         ensures taken { IfOk result (λ answer. TakesItem (C.offers catalog.now) ue header.now handed_over
-            self.old (counted answer) self.new) }
+            self.old (waiting_count answer) self.new) }
         ensures place { IfOk result (λ answer. IfOk answer (λ taken. PlacesLast (C.offers catalog.now)
             self.new taken.place)) }
         ensures lacks { OnErr result (LacksForItem self.old self.new) }
@@ -168,7 +168,7 @@ impl WorldWorker {
         requires remembers { Remembers (C.offers catalog.now) (held_by self.old).entries ue flows.old }
         requires few { handed_over ≤ 4294967295 }
         ensures taken { IfOk result (λ answer. TakesItem (C.offers catalog.now) ue header.now handed_over
-            self.old (counted answer) self.new) }
+            self.old (waiting_count answer) self.new) }
         ensures place { IfOk result (λ answer. IfOk answer (λ taken. PlacesLast (C.offers catalog.now)
             self.new taken.place)) }
         ensures lacks { OnErr result (LacksForItem self.old self.new) }
@@ -183,7 +183,7 @@ impl WorldWorker {
 
     /// Hands the waiting rows over to the session. A refusal keeps them.
     pub(crate) fn flush(&mut self, session: &mut SessionState) -> Result<Verdicts, FlushRefusal>
-        requires follow { MayFollow session.old self.old.number self.old.waiting }
+        requires follow { MayComeNext session.old self.old.number self.old.waiting }
         requires slots { HasItsSlots session.old.setting session.old.journal self.old.waiting }
         ensures answer { AnswersFlush session.old self.old.number self.old.waiting
             result session.new }
@@ -198,7 +198,7 @@ impl WorldWorker {
 
     /// Hands the waiting rows over to the session, which the worker leaves. A refusal keeps it there.
     pub(crate) fn finish(&self, session: &mut SessionState) -> Result<(Verdicts, u64), FlushRefusal>
-        requires follow { MayFollow session.old self.now.number self.now.waiting }
+        requires follow { MayComeNext session.old self.now.number self.now.waiting }
         requires slots { HasItsSlots session.old.setting session.old.journal self.now.waiting }
         ensures answer { AnswersFinish session.old self.now.number self.now.waiting
             result session.new }

@@ -1,16 +1,16 @@
 -- Lines that are left to be read: for private clauses.
 use Rattle.std.specs.Prelude.{ℕ, ◌≡◌, ◌+◌, ◌<◌, ◌≤◌, ◌^◌, List, [], ◌∷◌, length, Option, Some, None, option_map}
-use Rattle.pcef_figures.specs.Pairing.{filled_from, lines_of}
+use Rattle.pcef_figures.specs.Pairing.{filled_from, split_lines}
 use Rattle.pcef_figures.specs.declared.pairing.Lines.{Lines}
 
 -- the first line, and what follows the line feed that ends it
 abbrev pub IsFirstLine : List ℕ → List ℕ → Option (List ℕ) → Type 0
-IsFirstLine octets first None = lines_of octets ≡ first ∷ []
-IsFirstLine octets first (Some rest) = (lines_of octets ≡ first ∷ lines_of rest) × (length rest + 1 ≤ length octets)
+IsFirstLine octets first None = split_lines octets ≡ first ∷ []
+IsFirstLine octets first (Some rest) = (split_lines octets ≡ first ∷ split_lines rest) × (length rest + 1 ≤ length octets)
 
 abbrev pub lines_in : Option (List ℕ) → List (List ℕ)
 lines_in None = []
-lines_in (Some octets) = lines_of octets
+lines_in (Some octets) = split_lines octets
 
 -- how much there is to read
 abbrev pub size_in : Option (List ℕ) → ℕ

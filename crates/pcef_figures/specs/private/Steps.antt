@@ -10,7 +10,7 @@ use Rattle.pcef_figures.specs.declared.pairing.Filled.{Filled}
 use Rattle.pcef_figures.specs.Grants.{generation_behind, grant_asked, grant_of, grants_in, key_of, keys_behind, keys_shown, or_zero}
 use Rattle.pcef_figures.specs.Guarantees.{rates_commanded, rates_in, rules_behind, rules_commanded}
 use Rattle.pcef_figures.specs.Pairing.{Exchange, exchange_of, is_answered, has_value}
-use Rattle.pcef_figures.specs.Usages.{number_in, refusal_of, refusals_in, usage_figure_of, usage_in}
+use Rattle.pcef_figures.specs.Usages.{member_number, refusal_of, refusals_in, usage_figure_of, usage_in}
 
 abbrev pub exchange_by : Filled → Filled → Exchange
 exchange_by line answer = exchange_of ((line.number, line.octets.now), (answer.number, answer.octets.now))
@@ -30,13 +30,13 @@ pub record AddsPackets (old new : Figures) : Type 0 where
 pub record TakesDone (number : ℕ) (line answer : Data) (old new : Collected) : Type 0 where
   pub lines : new.figures.lines ≡ old.figures.lines
   pub last : new.figures.last ≡ old.figures.last
-  pub generation : new.figures.generation ≡ max old.figures.generation (or_zero (number_in (codes "generation") answer))
+  pub generation : new.figures.generation ≡ max old.figures.generation (or_zero (member_number (codes "generation") answer))
   pub usage : new.figures.usage ≡ old.figures.usage
   pub grants : map grant_of new.figures.grants.items ≡ map grant_of old.figures.grants.items ++ grant_asked number line
   pub keys : map key_of new.figures.keys.items ≡ keys_shown (map key_of old.figures.keys.items) (get (codes "keys") answer) answer
-  pub rates : new.figures.rates.items ≡ old.figures.rates.items ++ rates_commanded old.active (number_in (codes "generation") answer) line answer
+  pub rates : new.figures.rates.items ≡ old.figures.rates.items ++ rates_commanded old.active (member_number (codes "generation") answer) line answer
   pub refused : new.figures.refused ≡ old.figures.refused
-  pub active : new.active ≡ rules_commanded old.active (number_in (codes "generation") answer) line answer
+  pub active : new.active ≡ rules_commanded old.active (member_number (codes "generation") answer) line answer
 
 abbrev pub IsOtherOrMemory : ℕ → CollectFault → Type 0
 IsOtherOrMemory number (fault.NoAnswer n) = ⊥

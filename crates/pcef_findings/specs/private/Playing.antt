@@ -6,11 +6,11 @@ use Rattle.pcef_line.specs.declared.line.Line.{Line}
 use Rattle.pcef_line.specs.declared.line.Line.TheVariants as line
 use Rattle.pcef_line.specs.declared.fault.LineFault.{LineFault}
 use Rattle.pcef_answer.specs.FaultAnswers.{fault_text}
-use Rattle.pcef_answer.specs.StepAnswers.{step_text}
+use Rattle.pcef_answer.specs.StepAnswers.{reply_text}
 use Rattle.pcef_world.specs.Steps.{Standing, reply_of, standing_of}
 use Rattle.pcef_world.specs.Worlds.{World}
 use Rattle.pcef_world.specs.declared.answer.StepAnswer.{StepAnswer}
-use Rattle.pcef_findings.specs.Findings.{Finds, FindsDue, FindsLine, IsFindingOf, as_list, found_in}
+use Rattle.pcef_findings.specs.Findings.{Finds, FindsDue, FindsLine, IsFindingOf, as_list, finding_in}
 use Rattle.pcef_findings.specs.declared.finding.Finding.{Finding}
 use Rattle.pcef_findings.specs.declared.finding.Found.TheVariants as found
 
@@ -21,7 +21,7 @@ IsOfFault number f x = (x.line ≡ number) × (x.found ≡ found.Fault f) × (st
 -- the finding on an answer, where it refuses
 abbrev pub FindsAnswer : World → ℕ → StepAnswer → Option Finding → Type 0
 FindsAnswer w number a finding =
-    IsFindingOf number (found_in (reply_of a)) (step_text w.session.journal (gen w.session.journal) (reply_of a)) finding
+    IsFindingOf number (finding_in (reply_of a)) (reply_text w.session.journal (gen w.session.journal) (reply_of a)) finding
 
 -- a world does what a line asks for
 abbrev pub PlaysLine : World → ℕ → Line → Option Finding → World → Type 0

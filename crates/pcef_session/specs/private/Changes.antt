@@ -10,16 +10,16 @@ use Rattle.std.specs.Prelude.{ℕ, ◌≡◌, List, Option, Some, None, Bool, fi
 use Rattle.pcef_rule.specs.declared.quantity.BearerId.{BearerId}
 use Rattle.pcef_rule.specs.declared.rule.Properties.{Properties}
 use Rattle.pcef_bearer.specs.Bindings.{Binding, bound_at}
-use Rattle.pcef_bearer.specs.BindingSteps.{HasRoom, id_excluding, put, refusals, with_rules, without}
+use Rattle.pcef_bearer.specs.BindingSteps.{HasRoom, id_excluding, with_bound, binding_refusals, with_rules, without_bound}
 use Rattle.pcef_model.specs.Refusals.{first_of}
 use Rattle.pcef_model.specs.declared.command.Command.{Command}
 use Rattle.pcef_model.specs.declared.command.Command.TheVariants.{Monitor}
-use Rattle.pcef_active.specs.ByName.{Kept, is_still_bound, put_kept, without_kept}
+use Rattle.pcef_active.specs.ByName.{NamedSource, is_still_bound, put_kept, without_kept}
 use Rattle.pcef_usage.specs.declared.usage.KeyState.{KeyState}
 use Rattle.pcef_model.specs.Entries.{Journal}
 use Rattle.pcef_usage.specs.Counted.{Counted}
 use Rattle.pcef_usage.specs.Commands.{started_by}
-use Rattle.pcef_usage.specs.PendingReports.{appended, states_stopped, after_reports, after_thresholds, with_thresholds}
+use Rattle.pcef_usage.specs.PendingReports.{appended, states_stopped, after_reports, after_thresholds, thresholds_told}
 use Rattle.pcef_usage.specs.Keys.{with_slot}
 use Rattle.pcef_session.specs.declared.prepared.Activation.{Activation}
 use Rattle.pcef_model.specs.Commands.{level_named, takes_away}
@@ -42,21 +42,21 @@ entered_by of_rule c states = started_by c (with_slot (key_of of_rule c) (level_
 
 -- ---- rules
 -- the active rules by name that a command leaves, once the rules that it takes away aren't bound any more
-abbrev pub still_active : Command → Binding → List Kept → List Kept
+abbrev pub still_active : Command → Binding → List NamedSource → List NamedSource
 still_active (Remove name) bound active = without_kept name active
 still_active (LoseBearer id) bound active = filter (is_still_bound bound) active
 still_active Close bound active = []
 still_active Terminate bound active = []
 still_active _ bound active = active
 
--- a rule that becomes active is put among the others; else those stay that the command leaves
-abbrev pub active_after : Option Activation → Command → Binding → List Kept → List Kept
+-- a rule that becomes active is with_bound among the others; else those stay that the command leaves
+abbrev pub active_after : Option Activation → Command → Binding → List NamedSource → List NamedSource
 active_after (Some x) c bound active = put_kept (x.properties.name, x.source) active
 active_after None c bound active = still_active c bound active
 
 -- the rule that becomes active can be bound
 pub record Binds (rule : Properties) (b : Binding) : Type 0 where
-  pub accepted : first_of (refusals b (without rule.name b.bound) rule.qos rule.rates) ≡ None
+  pub accepted : first_of (binding_refusals b (without_bound rule.name b.bound) rule.qos rule.rates) ≡ None
   pub room : HasRoom rule.name 64 b.bound
 
 abbrev pub CanBind : Option Activation → Binding → Type 0
@@ -65,8 +65,8 @@ CanBind (Some x) b = Binds x.properties b
 
 -- a rule is bound to this bearer
 pub record IsBoundTo (rule : Properties) (old new : Binding) (id : BearerId) : Type 0 where
-  pub bearer_is : id_excluding old.default_qos old.bound (without rule.name old.bound) rule.qos ≡ Some id.0
-  pub binding_is : new ≡ with_rules old (put (bound_at rule.name rule.qos rule.rates id.0) old.bound)
+  pub bearer_is : id_excluding old.default_qos old.bound (without_bound rule.name old.bound) rule.qos ≡ Some id.0
+  pub binding_is : new ≡ with_rules old (with_bound (bound_at rule.name rule.qos rule.rates id.0) old.bound)
 
 abbrev pub IsRebound : Option Activation → Command → Binding → Binding → Option BearerId → Type 0
 IsRebound (Some x) c old new None = ⊥
@@ -88,7 +88,7 @@ states_reported all_pending states = after_reports all_pending (states_stopped a
 -- the journal after that, and then the thresholds; and the counters
 abbrev pub journal_after_reports : Bool → List PendingReport → Counted → Journal
 journal_after_reports subscribed all_pending c =
-    with_thresholds subscribed (states_reported all_pending c.states) (appended all_pending (states_stopped all_pending c.states) c.journal)
+    thresholds_told subscribed (states_reported all_pending c.states) (appended all_pending (states_stopped all_pending c.states) c.journal)
 
 abbrev pub counters_after_reports : Bool → List PendingReport → List KeyState → List KeyState
 counters_after_reports subscribed all_pending states = after_thresholds subscribed (states_reported all_pending states)

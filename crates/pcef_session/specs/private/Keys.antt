@@ -4,7 +4,7 @@ use Rattle.pcef_model.specs.declared.level.Level.TheVariants.{Rule, Session}
 use Rattle.pcef_rule.specs.declared.quantity.Slot.{Slot}
 use Rattle.pcef_table.specs.SessionSlots.{no_slots}
 use Rattle.pcef_table.specs.Tables.{with_counting}
-use Rattle.pcef_usage.specs.Keys.{place_of, state_at}
+use Rattle.pcef_usage.specs.Keys.{slot_place, state_at}
 use Rattle.std.specs.Prelude.{map, set, [], ◌∷◌, if◌then◌else◌, nat_lt}
 use Rattle.pcef_model.specs.declared.pending_report.PendingReport.{PendingReport}
 use Rattle.pcef_model.specs.declared.pending_report.PendingReport.TheVariants.{Usage}
@@ -98,7 +98,7 @@ switches_on _ = false
 -- its level: that of a Monitor, or the one that the key has
 abbrev pub level_switched : Command → List ℕ → List KeyState → Level
 level_switched (Monitor key grant level) k states = level
-level_switched c k states = (state_at (place_of k states) states).level
+level_switched c k states = (state_at (slot_place k states) states).level
 
 -- the entries, and the flags of slots, where this slot counts or doesn't for a key of this level
 abbrev pub entries_switched : Level → Slot → Bool → List TableEntry → List TableEntry

@@ -1,7 +1,7 @@
 -- Rows that are taken over.
 use Rattle.std.specs.Prelude.{ℕ, length, set, get_or}
 use Rattle.pcef_lane.specs.declared.lanes.LaneEnd.{LaneEnd}
-use Rattle.pcef_lane.specs.Lanes.{at_start, last_generation, lengthened}
+use Rattle.pcef_lane.specs.Lanes.{just_attached, last_generation, lengthened}
 use Rattle.pcef_session.specs.Following.{row_of, row_slots}
 use Rattle.std.specs.Prelude.{◌≡◌, Bool, List, [], ◌∷◌, map}
 use Rattle.pcef_model.specs.declared.row.Row.{Row}
@@ -35,4 +35,4 @@ IsTaken subscribed (i ∷ items) old new = IsTakenAll subscribed (i ∷ items) o
 abbrev pub with_lane : ℕ → List Row → List LaneEnd → List LaneEnd
 with_lane worker [] lanes = lanes
 with_lane worker (r ∷ rs) lanes =
-    set lanes worker (lengthened (length (r ∷ rs)) (last_generation r.generation rs) (get_or lanes worker at_start))
+    set lanes worker (lengthened (length (r ∷ rs)) (last_generation r.generation rs) (get_or lanes worker just_attached))

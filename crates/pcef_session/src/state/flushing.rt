@@ -4,7 +4,7 @@ ghost use Rattle.std.specs.Prelude.{◌≡◌, ◌≤◌, ◌+◌, IfOk, OnErr, 
 ghost use Rattle.pcef_model.specs.Entries.{rows};
 ghost use Rattle.pcef_model.specs.Reports.{after_flush};
 ghost use Rattle.pcef_model.specs.Outcomes.{flush_answer, flush_answer_of};
-ghost use Rattle.pcef_session.specs.Answers.{AnswersFlush, MayFollow};
+ghost use Rattle.pcef_session.specs.Answers.{AnswersFlush, MayComeNext};
 ghost use Rattle.pcef_session.specs.Following.{HasFewKeys, HasItsSlots, HasSmallRows, row_of};
 ghost use Rattle.pcef_session.specs.SessionModel.{HasAtLeast};
 ghost use Rattle.pcef_session.specs.private.Sessions.{AcceptsRows};
@@ -49,7 +49,7 @@ impl SessionState {
     /// changes nothing that can be seen but room.
     fn take_over(&mut self, worker: u8, items: &[Item]) -> Result<Verdicts, AllocError>
         requires accepted { AcceptsRows self.old worker (length items.now) }
-        requires follow { MayFollow self.old worker items.now }
+        requires follow { MayComeNext self.old worker items.now }
         requires slots { HasItsSlots self.old.setting self.old.journal items.now }
         requires octets { HasSmallRows items.now }
         ensures flush_answer { IfOk result (λ v. flush_answer_of v
@@ -80,7 +80,7 @@ impl SessionState {
     /// rows, their verdicts and the reports. Refused, in this order, where the worker isn't attached, where the
     /// journal would hold more rows than the profile allows, and when out of memory; a refusal leaves no less room.
     pub fn flush(&mut self, worker: u8, batch: &Batch) -> Result<Verdicts, FlushRefusal>
-        requires follow { MayFollow self.old worker batch.now }
+        requires follow { MayComeNext self.old worker batch.now }
         requires slots { HasItsSlots self.old.setting self.old.journal batch.now }
         ensures answer { AnswersFlush self.old worker batch.now result self.new }
         ensures few_keys { OnOk result (HasFewKeys self.old.setting self.old.journal) }
@@ -93,7 +93,7 @@ impl SessionState {
 
     /// The same for rows in a list of the caller's.
     pub fn flush_items(&mut self, worker: u8, items: &[Item]) -> Result<Verdicts, FlushRefusal>
-        requires follow { MayFollow self.old worker items.now }
+        requires follow { MayComeNext self.old worker items.now }
         requires slots { HasItsSlots self.old.setting self.old.journal items.now }
         requires octets { HasSmallRows items.now }
         ensures answer { AnswersFlush self.old worker items.now result self.new }

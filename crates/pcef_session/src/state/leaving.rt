@@ -6,7 +6,7 @@ ghost use Rattle.pcef_model.specs.Outcomes.{abandon_outcome};
 ghost use Rattle.pcef_model.specs.Journals.{attached, lane_len};
 ghost use Rattle.pcef_model.specs.Refusals.{is_attached};
 ghost use Rattle.pcef_model.specs.Reports.{after_leave};
-ghost use Rattle.pcef_session.specs.Answers.{AnswersFinish, IsLaneEnd, MayFollow};
+ghost use Rattle.pcef_session.specs.Answers.{AnswersFinish, IsLaneEnd, MayComeNext};
 ghost use Rattle.pcef_session.specs.Following.{HasFewKeys, HasItsSlots, HasSmallRows};
 ghost use Rattle.pcef_session.specs.SessionModel.{HasAtLeast};
 
@@ -61,7 +61,7 @@ impl SessionState {
     /// Takes over a worker's last rows and lets it leave. Gives the length of its lane too. Takes memory, and is
     /// refused, as [`SessionState::flush`]; a refusal changes nothing, and the worker stays attached.
     pub fn finish(&mut self, worker: u8, batch: &Batch) -> Result<(Verdicts, u64), FlushRefusal>
-        requires follow { MayFollow self.old worker batch.now }
+        requires follow { MayComeNext self.old worker batch.now }
         requires slots { HasItsSlots self.old.setting self.old.journal batch.now }
         ensures answer { AnswersFinish self.old worker batch.now result self.new }
         ensures few_keys { OnOk result (HasFewKeys self.old.setting self.old.journal) }
@@ -78,7 +78,7 @@ impl SessionState {
         worker: u8,
         items: &[Item],
     ) -> Result<(Verdicts, u64), FlushRefusal>
-        requires follow { MayFollow self.old worker items.now }
+        requires follow { MayComeNext self.old worker items.now }
         requires slots { HasItsSlots self.old.setting self.old.journal items.now }
         requires octets { HasSmallRows items.now }
         ensures answer { AnswersFinish self.old worker items.now result self.new }

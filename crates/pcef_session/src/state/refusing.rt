@@ -4,7 +4,7 @@ ghost use Rattle.std.specs.Prelude.{◌≡◌, ◌==◌, None};
 ghost use Rattle.std.specs.List.{list_any};
 ghost use Rattle.std.specs.Option.{option_copied};
 ghost use Rattle.pcef_model.specs.Journals.{now, slots};
-ghost use Rattle.pcef_usage.specs.Keys.{clashes as key_clashes, finds_no_slot as slotless, has_slot};
+ghost use Rattle.pcef_usage.specs.Keys.{level_clashes as key_clashes, finds_no_place as slotless, has_slot};
 ghost use Rattle.pcef_model.specs.Commands.{is_among};
 ghost use Rattle.pcef_model.specs.declared.command.Command.TheVariants as of;
 ghost use Rattle.pcef_model.specs.Refusals.{becoming_active, clashes, common_refusals, end_refusals, finds_no_slot, first_of, first_refusals, is_active, is_bearer, refusals, refusals_within, room_refusals};

@@ -9,7 +9,7 @@ use Rattle.pcef_script.specs.Scripts.{all_lines, ended_lines, last_line}
 use Rattle.pcef_sessions.specs.declared.running.Serving.{Serving}
 use Rattle.pcef_sessions.specs.declared.sessions.Sessions.{Sessions}
 use Rattle.pcef_sessions.specs.Sayings.{Said}
-use Rattle.pcef_sessions.specs.Served.{AreSaid, Wrote, WroteFront, all_bytes, any_fault}
+use Rattle.pcef_sessions.specs.Served.{AreSaid, WroteNamed, WroteNamedFront, all_bytes, any_fault}
 use Rattle.pcef_sessions.specs.Standing.{fixed, held}
 
 -- so much of a line is kept: a name of 64 octets, a space, and one octet more than a script's line may have
@@ -42,14 +42,14 @@ StandsAtEnd p start now s input = HasSaid p (answered (all_lines input)) start n
 
 -- the answer to the last line wasn't written whole
 abbrev pub EndFails : Setting → ScriptFault → Option (List ℕ) → Option (List ℕ) → List ℕ → Type 0
-EndFails p fault.Write start now input = WroteFront p (answered (all_lines input)) start now
-EndFails p fault.NoMemory start now input = (any : Bool) × Wrote p (answered (ended_lines input)) any start now
+EndFails p fault.Write start now input = WroteNamedFront p (answered (all_lines input)) start now
+EndFails p fault.NoMemory start now input = (any : Bool) × WroteNamed p (answered (ended_lines input)) any start now
 EndFails p other start now input = ⊥
 
 -- it ended after this input
 abbrev pub Stopped : Setting → ScriptFault → Option (List ℕ) → Option (List ℕ) → List ℕ → Type 0
-Stopped p fault.Write start now input = WroteFront p (answered (ended_lines input)) start now
-Stopped p fault.NoMemory start now input = (any : Bool) × Wrote p (answered (ended_lines input)) any start now
+Stopped p fault.Write start now input = WroteNamedFront p (answered (ended_lines input)) start now
+Stopped p fault.NoMemory start now input = (any : Bool) × WroteNamed p (answered (ended_lines input)) any start now
 Stopped p other start now input = ⊥
 
 abbrev pub StoppedIn : Setting → ScriptFault → Option (List ℕ) → Option (List ℕ) → List ℕ → List ℕ → Type 0

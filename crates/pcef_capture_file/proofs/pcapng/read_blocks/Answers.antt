@@ -7,13 +7,13 @@ use Rattle.pcef_capture_file.specs.declared.fault.CaptureFault.{CaptureFault}
 use Rattle.pcef_capture_file.specs.declared.fault.CaptureFault.TheVariants.{NoMemory}
 use Rattle.pcef_capture_file.specs.declared.packet.Capture.{Capture}
 use Rattle.pcef_capture_file.specs.declared.packet.Packet.{Packet}
-use Rattle.pcef_capture_file.specs.Sections.{Standing, standing}
+use Rattle.pcef_capture_file.specs.Sections.{SectionState, standing}
 use Rattle.pcef_capture_file.proofs.BlockReadings.{ReadSoFar, all_read, one_more, read_to_fault}
 use Rattle.pcef_capture_file.proofs.Readings.{some_length}
 use Rattle.pcef_capture_file.proofs.pcapng.read_blocks.Goals as goal
 
 -- what was read before a block at fault
-ends_there : (r : Result Capture CaptureFault) (octets : List ℕ) (packets : List Packet) (s : Standing) (rest : List ℕ) (f : CaptureFault)
+ends_there : (r : Result Capture CaptureFault) (octets : List ℕ) (packets : List Packet) (s : SectionState) (rest : List ℕ) (f : CaptureFault)
     → ReadSoFar octets (map captured packets) s rest → 0 < length rest
     → (f ≡ NoMemory) ⊎ (step_of s rest ≡ Err f)
     → IfOk r (λ capture. capture.packets.items ≡ packets) → IfOk r (λ capture. capture.fault ≡ Some f) → OnOk r (f ≢ NoMemory)

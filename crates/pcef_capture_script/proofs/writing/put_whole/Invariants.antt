@@ -1,6 +1,6 @@
 use Rattle.std.proofs.Common.{List, Option, ℕ, length}
 use Rattle.pcef_capture_file.specs.Streams.{StandsBehind}
-use Rattle.pcef_capture_script.specs.Progress.{IsAfter}
+use Rattle.pcef_capture_script.specs.Progress.{IsWrittenAfter}
 use Rattle.pcef_capture_script.specs.Scripts.{Rota}
 use Rattle.pcef_capture_script.proofs.writing.put_whole.Given as goal
 
@@ -8,8 +8,8 @@ use Rattle.pcef_capture_script.proofs.writing.put_whole.Given as goal
 abbrev pub invariant-loop-packet : goal.invariant-loop-packet
 invariant-loop-packet g l = record {
   after : (start : Option (List ℕ)) (rota : Rota) (input : List ℕ)
-      → IsAfter l.plan.ue l.plan.pads rota start (g.W.Write.contents l.fn.writer) l.fn.written l.fn.stream l.fn.octets input
-      → IsAfter l.plan.ue l.plan.pads rota start (g.W.Write.contents l.writer) l.written l.stream l.rest input;
+      → IsWrittenAfter l.plan.ue l.plan.pads rota start (g.W.Write.contents l.fn.writer) l.fn.written l.fn.stream l.fn.octets input
+      → IsWrittenAfter l.plan.ue l.plan.pads rota start (g.W.Write.contents l.writer) l.written l.stream l.rest input;
   behind : StandsBehind l.fn.octets l.rest;
 }
 

@@ -3,7 +3,7 @@ use Rattle.std.proofs.KnownBytes.{Consumes-trans}
 use Rattle.std.specs.Io.KnownBytes.{Consumes}
 use Rattle.std.proofs.lemmas.List.{nil_from_length}
 use Rattle.std.proofs.lemmas.Result.{err_from_is_err_and}
-use Rattle.pcef_capture_script.specs.Progress.{IsAfter, Paused, rota_of}
+use Rattle.pcef_capture_script.specs.Progress.{IsWrittenAfter, Paused, rota_of}
 use Rattle.pcef_capture_script.proofs.Progress.{after_more, ends, ends_faulty, ends_reading, ends_waiting, front_so_far}
 use Rattle.pcef_capture_script.proofs.writing.write_rest.Goals as goal
 
@@ -95,7 +95,7 @@ loop-preserved g c = λ before first read reached.
     let more = c.in_ok-read_more-in-Waits.ensures.more in (
       h.0 ++ more.0,
       Consumes-trans before (remaining c.loop.reader) (remaining c.read_more.new.reader) h.0 more.0 h.1 more.1,
-      subst (λ o. IsAfter plan.ue plan.pads rota start (contents put.writer) put.written put.stream o (h.0 ++ more.0)) (sym more.2)
+      subst (λ o. IsWrittenAfter plan.ue plan.pads rota start (contents put.writer) put.written put.stream o (h.0 ++ more.0)) (sym more.2)
           (after_more plan.ue plan.pads rota start (contents put.writer) put.written put.stream put.waiting.items h.0 more.0 paused.0),
     )
 

@@ -1,6 +1,6 @@
 use Rattle.std.proofs.Common.{rules, ◌≡◌, ◌<◌, ◌+◌, ◌++◌, ◌∷◌, [], length, subst, sym, take}
 use Rattle.pcef_catalog.specs.Catalogs.{offers_of}
-use Rattle.pcef_program.specs.PoolEnds.{AskFor}
+use Rattle.pcef_program.specs.PoolEnds.{TextsAskFor}
 use Rattle.pcef_program.specs.declared.end.End.TheVariants as ending
 use Rattle.pcef_program.proofs.PoolProfiles.{asked_next, first_unread, no_room}
 use Rattle.pcef_program.proofs.pool_run.read_profiles.Goals as goal
@@ -23,5 +23,5 @@ loop-profile-preserved g c =
     let at = c.loop-profile in
     let within : at.profile-index < length c.args.profiles.now = search rules in
     let pushed : c.push.new.self.items ≡ at.asked.items ++ c.in-Ok.one ∷ [] = search rules in
-    subst (AskFor (offers_of c.args.catalog.now) (take (at.profile-index + 1) c.args.profiles.now)) (sym pushed)
+    subst (TextsAskFor (offers_of c.args.catalog.now) (take (at.profile-index + 1) c.args.profiles.now)) (sym pushed)
     (asked_next _ c.args.profiles.now at.profile-index c.profile-item.result at.asked.items c.in-Ok.one within c.profile-item.is at.invariant c.in-Ok.ensures.asked)

@@ -1,6 +1,6 @@
 use Rattle.std.proofs.Common.{◌∙◌, ◌+◌, [], ap, subst}
 use Rattle.std.proofs.lemmas.Result.{err_from_is_err_and}
-use Rattle.pcef_script.specs.ScriptLines.{Kept, kept_of}
+use Rattle.pcef_script.specs.ScriptLines.{KeptLine, kept_of}
 use Rattle.pcef_script.specs.Running.{EndFails, EndsLine}
 use Rattle.pcef_script.specs.Scripts.{last_line}
 use Rattle.pcef_script.proofs.ScriptSteps.{few_faults, goes_on, kept_at, kept_now, line_ends, line_fails, take_fails, took_end, took_plain, was_within}
@@ -43,7 +43,7 @@ returns-clause-ok g c = λ p start input h.
     let took = took_end flag c.args.byte (last_line input) script.line c.take.new.self c.if-not-branch.false (c.in_ok-take.ensures.line (last_line input) (kept_now script.line input h.kept)) in
     let few = few_faults p start old script.line script.faults script.world input h in
     let ends = c.in_ok-script.ensures.ok (last_line input) (kept_at c.take.new.self (last_line input) (script.line.read + 1) took.1) few in
-    let cleared = c.clear.ensures ∙ ap (kept_of []) (ap (λ (k : Kept). k.read) took.1) in
+    let cleared = c.clear.ensures ∙ ap (kept_of []) (ap (λ (k : KeptLine). k.read) took.1) in
     let setting = (c.end_line.ensures.setting ∙ h.setting) in
     rw took.0 (line_ends p start old new script.line c.clear.new.self script.faults c.in_ok-script.field-0 script.world world input h lt cleared setting
     (subst (λ s. EndsLine s script.world world (last_line input) script.faults c.in_ok-script.field-0 old new) h.setting ends))

@@ -3,7 +3,7 @@
 ghost use Rattle.std.specs.Prelude.{◌≡◌, [], IfSome, true};
 ghost use Rattle.std.specs.Arc.{arc_value};
 ghost use Rattle.pcef_session.specs.Answers.{ShowsNewest};
-ghost use Rattle.pcef_share.specs.Names.{name_at};
+ghost use Rattle.pcef_share.specs.Names.{ledger_at};
 ghost use Rattle.pcef_lock.specs.Opening.{GoesBy};
 
 use super::*;
@@ -296,7 +296,7 @@ fn pool_named<P: Pooling + Send + Sync, R: Threads + Wait + Sync>(
     blanks: RateBlanks,
 ) -> Option<(Seen, (u32, u32), Sums)>
     requires there { P.is_there ≡ true }
-    requires name { P.ledger ≡ name_at blanks }
+    requires name { P.ledger ≡ ledger_at blanks }
     requires capacity { P.capacity ≡ capacity }
 {
     let pool = Pool::<P>::new(capacity, blanks).ok()?;

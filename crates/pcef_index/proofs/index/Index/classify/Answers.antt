@@ -1,6 +1,6 @@
 use Rattle.std.proofs.Common.{◌∙◌, sym}
 use Rattle.pcef_table.specs.declared.entry.TableEntry.{TableEntry}
-use Rattle.pcef_table.specs.Sources.{fits}
+use Rattle.pcef_table.specs.Sources.{source_fits}
 use Rattle.pcef_table.proofs.Decided.{gate_decides}
 use Rattle.pcef_lists.proofs.Foremost.{none_passes}
 use Rattle.pcef_index.proofs.index.Index.classify.Goals as goal
@@ -8,7 +8,7 @@ use Rattle.pcef_index.proofs.index.Index.classify.Goals as goal
 pub returns-in-None : goal.returns-in-None
 returns-in-None g c =
     let offers = g.C.Offers.offers c.args.catalog.now in
-    let passes = λ (e : TableEntry). fits offers c.args.ue c.args.header.now e.source in
+    let passes = λ (e : TableEntry). source_fits offers c.args.ue c.args.header.now e.source in
     (sym c.is_own.ensures ∙ c.if-not-is_own.false, none_passes passes c.args.table.now.entries (sym c.in-None.ensures.first))
 
 pub returns-in-Some : goal.returns-in-Some

@@ -1,6 +1,6 @@
 use Rattle.std.proofs.Common.{◌∙◌, subst, sym}
 use Rattle.pcef_table.specs.declared.entry.TableEntry.{TableEntry}
-use Rattle.pcef_table.specs.Sources.{fits}
+use Rattle.pcef_table.specs.Sources.{source_fits}
 use Rattle.pcef_table.specs.Verdicts.{IsVerdict}
 use Rattle.pcef_table.proofs.Decided.{entry_decides}
 use Rattle.pcef_lists.proofs.Foremost.{none_passes}
@@ -10,7 +10,7 @@ pub returns-in-None-clause-verdict : goal.returns-in-None-clause-verdict
 returns-in-None-clause-verdict g c ue own first =
     let offers = g.C.Offers.offers c.args.catalog.now in
     let entries = c.args.self.now.entries in
-    let passes = λ (e : TableEntry). fits offers ue c.args.header.now e.source in
+    let passes = λ (e : TableEntry). source_fits offers ue c.args.header.now e.source in
     subst (IsVerdict offers entries ue c.args.header.now) (sym c.undecided.ensures.verdict)
     (own, none_passes passes entries (sym first ∙ sym c.in-None.ensures.entry))
 

@@ -1,6 +1,6 @@
 use Rattle.std.proofs.Common.{◌∙◌, subst, sym}
 use Rattle.pcef_table.specs.declared.entry.TableEntry.{TableEntry}
-use Rattle.pcef_table.specs.Sources.{fits}
+use Rattle.pcef_table.specs.Sources.{source_fits}
 use Rattle.pcef_table.specs.Verdicts.{IsVerdict}
 use Rattle.pcef_table.proofs.Decided.{entry_decides}
 use Rattle.pcef_lists.proofs.Foremost.{none_passes}
@@ -9,7 +9,7 @@ use Rattle.pcef_index.proofs.indexed.Indexed.judged.Goals as goal
 pub returns-in_default-clause-verdict : goal.returns-in_default-clause-verdict
 returns-in_default-clause-verdict g c =
     let offers = g.C.Offers.offers c.args.catalog.now in
-    let passes = λ (e : TableEntry). fits offers c.args.ue c.args.header.now e.source in
+    let passes = λ (e : TableEntry). source_fits offers c.args.ue c.args.header.now e.source in
     subst (IsVerdict offers c.args.self.now.entries c.args.ue c.args.header.now) (sym c.undecided-in_default.ensures.verdict)
     (sym c.is_own.ensures ∙ c.if-not-is_own.false, none_passes passes c.args.self.now.entries (sym c.in_default.ensures.first))
 

@@ -9,7 +9,7 @@ use Rattle.pcef_journaled.specs.Archiving.{Archives}
 use Rattle.pcef_share.specs.Amounts.{sums, zeros}
 use Rattle.pcef_pool.specs.Pools.{rates_due}
 use Rattle.pcef_handover.specs.Counting.{slot_total}
-use Rattle.pcef_lock.specs.Gathering.{AgreeWith, AreGathered, CanGather, gathered, key_totals, total_of}
+use Rattle.pcef_lock.specs.Gathering.{AgreeWith, AreGathered, CanGather, gathered, key_totals, key_total}
 use Rattle.pcef_lock.specs.declared.key_totals.KeyTotal.{KeyTotal}
 use Rattle.pcef_lock.proofs.Gathered.{gathered_all, share_of, shares_there}
 use Rattle.pcef_lock.proofs.TotalsOfKeys.{totals_exact, totals_gathered}
@@ -41,7 +41,7 @@ returns-clause-totals g c =
     let all : count_by is_some c.all_shares-shares.result.0.items ≡ c.self.inside.books.issued = c.in-Ok.ensures.all.0 (search rules) in
     let keys : c.totals_of-keys.result ≡ key_totals p j =
     c.totals_of-keys.ensures.keys ∙ rw (setting, told) refl in
-    let few : length (slots p j) ≤ 8 = omega (arith, ap length keys, length-map (slots p j) (total_of p j), c.totals_of-keys.ensures.few) in
+    let few : length (slots p j) ≤ 8 = omega (arith, ap length keys, length-map (slots p j) (key_total p j), c.totals_of-keys.ensures.few) in
     let books : (n : ℕ) → n < 8 → slice_index c.in-Ok.amounts n ≡ slot_total p j n =
     λ n below. ap (λ (xs : List ℕ). slice_index xs n) c.in-Ok.ensures.totals ∙ c.self.invariant.0.kept.counted.slots_are n below in
     let shares : (n : ℕ) → n < 8 → slice_index c.in-Ok.amounts n ≡ gathered n handed =

@@ -1,6 +1,6 @@
 use Rattle.std.proofs.Common.{◌∙◌, ap, refl, subst, sym, true, Ok}
 use Rattle.pcef_model.specs.declared.answer.Accepted.{Accepted}
-use Rattle.pcef_bearer.specs.Bindings.{Binding, bearer_of}
+use Rattle.pcef_bearer.specs.Bindings.{Binding, bearer_of_rule}
 use Rattle.pcef_model.specs.Outcomes.{Gives, command_outcome}
 use Rattle.pcef_model.specs.declared.command.Command.TheVariants.{Activate}
 use Rattle.pcef_model.specs.Journals.{now, report_count}
@@ -30,6 +30,6 @@ returns c =
     subst (λ (m : SessionModel). Gives (command_outcome m.setting m.journal (Activate c.args.name.now)) (Ok told) m.journal) c.self.view_is
     (outcome_idle p j c.args.name.now told idle.accepted idle.active
     (c.generation.ensures ∙ ap (λ (t : TableValue). t.number) c.deref.ensures ∙ agrees.table_shows.number_is)
-    (c.bearer_of.ensures ∙ ap (λ (b : Binding). bearer_of c.args.name.now b.bound) agrees.binding_is ∙ bearer_bound c.args.name.now (now p j) (now p j).rules)
+    (c.bearer_of.ensures ∙ ap (λ (b : Binding). bearer_of_rule c.args.name.now b.bound) agrees.binding_is ∙ bearer_bound c.args.name.now (now p j) (now p j).rules)
     (c.reports_len-reports.ensures ∙ ap report_count c.journal.ensures.entries)
     (c.reports_len-reports.ensures ∙ ap report_count c.journal.ensures.entries) refl)

@@ -1,6 +1,6 @@
 use Rattle.std.proofs.Common.{◌≡◌, Some, None, subst, sym, refl, true}
 use Rattle.pcef_bearer.specs.Bindings.{Binding}
-use Rattle.pcef_bearer.specs.BindingSteps.{refusals as bound_refusals, without}
+use Rattle.pcef_bearer.specs.BindingSteps.{binding_refusals as bound_refusals, without_bound}
 use Rattle.pcef_model.specs.Refusals.{first_of, refusals, becoming_active}
 use Rattle.pcef_model.specs.Outcomes.{changes}
 use Rattle.pcef_model.specs.Commands.{activated}
@@ -23,4 +23,4 @@ bearer_for-requires c =
     let b = brought p command (Some x) x refl (subst (λ (m : SessionModel). Activates m.setting (activated m.setting command) (Some x)) (sym c.self.view_is) (rw c.in-Some.is at c.requires.rule)) in
     let can = activation_accepted p v.journal command b.rule accepted changing b.becomes in
     let binds = (binds_rule p v.journal x.properties (subst (λ q. first_of (becoming_active p v.journal q) ≡ None) (sym b.is_of.properties_are) can)).accepted in
-    subst (λ (y : Binding). first_of (bound_refusals y (without x.properties.name y.bound) x.properties.qos x.properties.rates) ≡ None) (sym c.self.invariant.agrees.binding_is) binds
+    subst (λ (y : Binding). first_of (bound_refusals y (without_bound x.properties.name y.bound) x.properties.qos x.properties.rates) ≡ None) (sym c.self.invariant.agrees.binding_is) binds

@@ -1,6 +1,6 @@
 use Rattle.std.proofs.Common.{◌≡◌, ◌∙◌, subst, ap}
 use Rattle.pcef_bearer.specs.Bindings.{Binding}
-use Rattle.pcef_bearer.specs.BindingSteps.{refusals as bound_refusals, without as bound_without}
+use Rattle.pcef_bearer.specs.BindingSteps.{binding_refusals as bound_refusals, without_bound as bound_without}
 use Rattle.pcef_model.specs.ActiveRules.{without}
 use Rattle.pcef_model.specs.Journals.{now}
 use Rattle.pcef_session.specs.SessionModel.{SessionModel}

@@ -12,7 +12,7 @@ use Rattle.pcef_table.specs.Tables.{TableValue}
 use Rattle.pcef_usage.specs.declared.usage.KeyState.{KeyState}
 use Rattle.pcef_model.specs.declared.trigger.TriggerSet.{TriggerSet}
 use Rattle.pcef_usage.specs.Commands.{subscribed_by}
-use Rattle.pcef_usage.specs.Keys.{HasPlaceFor, finds_no_slot, keys_of}
+use Rattle.pcef_usage.specs.Keys.{HasPlaceFor, finds_no_place, keys_of}
 use Rattle.pcef_usage.specs.PendingReports.{KnowsAll}
 use Rattle.pcef_usage.proofs.Commanded.{keys_entered}
 use Rattle.pcef_usage.proofs.Planned.{knows_plan}
@@ -60,7 +60,7 @@ enter-requires-clause-slot c =
     let p = setting_of s.profile s.listing in
     let key : key_of c.rule_key-key.result c.args.change.command ≡ key_named p c.args.change.command =
     ap (λ (k : Option (List ℕ)). key_of k c.args.change.command) (c.rule_key-key.ensures ∙ ap rule_key c.as_ref.ensures.value) ∙ sym (served_key p c.args.change.command c.args.change.rule ready.rule) in
-    ap (λ (k : Option (List ℕ)). finds_no_slot k s.counted.states) key
+    ap (λ (k : Option (List ℕ)). finds_no_place k s.counted.states) key
     ∙ served_slot p s.counted.journal c.args.change.command s.counted.states c.self.invariant.agrees.keys_are ready.accepted ready.changing
 
 pub enter-requires-clause-places : goal.enter-requires-clause-places

@@ -1,6 +1,6 @@
 use Rattle.std.proofs.Common.{◌≡◌, ◌∙◌, subst, ap}
 use Rattle.std.specs.Option.{option_copied}
-use Rattle.pcef_usage.specs.Keys.{clashes as key_clashes}
+use Rattle.pcef_usage.specs.Keys.{level_clashes as key_clashes}
 use Rattle.pcef_usage.proofs.Levels.{clashes_is}
 use Rattle.pcef_session.specs.SessionModel.{SessionModel}
 use Rattle.pcef_model.specs.Refusals.{clashes}

@@ -1,6 +1,6 @@
 use Rattle.std.proofs.Common.{◌≡◌, ◌∙◌, subst, ap}
 use Rattle.std.specs.Option.{option_copied}
-use Rattle.pcef_usage.specs.Keys.{finds_no_slot as slotless}
+use Rattle.pcef_usage.specs.Keys.{finds_no_place as slotless}
 use Rattle.pcef_session.specs.SessionModel.{SessionModel}
 use Rattle.pcef_model.specs.Refusals.{finds_no_slot}
 use Rattle.pcef_model.specs.ProfileModel.{setting_of}

@@ -1,6 +1,6 @@
 use Rattle.std.proofs.Common.{◌≡◌, ◌∙◌, subst, ap}
 use Rattle.pcef_bearer.specs.Bindings.{Binding}
-use Rattle.pcef_bearer.specs.BindingSteps.{total}
+use Rattle.pcef_bearer.specs.BindingSteps.{bound_total}
 use Rattle.pcef_model.specs.Journals.{now}
 use Rattle.pcef_model.specs.ProfileModel.{setting_of}
 use Rattle.pcef_model.specs.Refusals.{total_now}
@@ -13,4 +13,4 @@ returns c =
     let p = setting_of c.self.inside.profile c.self.inside.listing in
     let g = now p c.self.inside.counted.journal in
     subst (λ (v : SessionModel). c.total.result ≡ total_now v.setting v.journal) c.self.view_is
-    (c.total.ensures ∙ ap (λ (b : Binding). total b.bound) c.self.invariant.agrees.binding_is ∙ all_bound g)
+    (c.total.ensures ∙ ap (λ (b : Binding). bound_total b.bound) c.self.invariant.agrees.binding_is ∙ all_bound g)

@@ -4,7 +4,7 @@ use Rattle.pcef_session.specs.declared.batch.Item.{Item}
 use Rattle.pcef_share.specs.Amounts.{zeros}
 use Rattle.pcef_handover.specs.Counting.{with_items}
 use Rattle.pcef_table.specs.Tables.{TableValue}
-use Rattle.pcef_lock.specs.Judging.{AllJudged, FollowsLast, IsJudged}
+use Rattle.pcef_lock.specs.Judging.{AllJudged, FollowsLast, IsJudgedBySeen}
 use Rattle.pcef_worker.proofs.Appending.{with_items_append}
 use Rattle.pcef_worker.proofs.worker.Worker.hand_last.Goals as goal
 
@@ -13,7 +13,7 @@ finish-requires g c = c.self.invariant.3
 
 pub invariant_of-self-2 : goal.invariant_of-self-2
 invariant_of-self-2 g c =
-    let J : Item → Type 0 = IsJudged g.N.Naming.setting.catalog g.N.Naming.setting.ue g.N.Naming.first c.finish.new.seat.subscriber in
+    let J : Item → Type 0 = IsJudgedBySeen g.N.Naming.setting.catalog g.N.Naming.setting.ue g.N.Naming.first c.finish.new.seat.subscriber in
     let handed : c.finish.new.seat.shares ≡ with_items c.self.inside.seat.shares c.self.inside.waiting = search rules in
     let shares : c.finish.new.seat.shares ≡ with_items zeros c.keep_all.new.rows.items =
     handed ∙ ap (λ t. with_items t c.self.inside.waiting) c.self.invariant.0 ∙ sym (with_items_append zeros c.self.inside.rows.items c.self.inside.waiting)

@@ -1,12 +1,12 @@
 use Rattle.std.proofs.Common.{rules, ℕ, ◌+◌, length, arith, ◌≡◌, List, All, refl, subst, sym}
 use Rattle.std.proofs.lemmas.List.Elements.{All-push}
 use Rattle.pcef_session.specs.declared.batch.Item.{Item}
-use Rattle.pcef_lock.specs.Judging.{IsJudged, IsTaken}
+use Rattle.pcef_lock.specs.Judging.{IsJudgedBySeen, IsTaken}
 use Rattle.pcef_worker.proofs.worker.Worker.take.Goals as goal
 
 pub invariant_of-self : goal.invariant_of-self
 invariant_of-self g c =
-    let J : Item → Type 0 = IsJudged g.N.Naming.setting.catalog g.N.Naming.setting.ue g.N.Naming.first c.self.inside.seat.subscriber in (
+    let J : Item → Type 0 = IsJudgedBySeen g.N.Naming.setting.catalog g.N.Naming.setting.ue g.N.Naming.first c.self.inside.seat.subscriber in (
       c.self.invariant.0,
       c.self.invariant.1,
       c.self.invariant.2,

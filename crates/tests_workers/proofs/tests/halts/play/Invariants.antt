@@ -1,8 +1,8 @@
 use Rattle.pcef_model.specs.Journals.{gen}
-use Rattle.pcef_share.specs.Names.{name_at}
+use Rattle.pcef_share.specs.Names.{ledger_at}
 use Rattle.tests_workers.proofs.tests.halts.play.Given as goal
 
 -- the name of the session, of the blanks and of the opened history
 abbrev pub ghosts-behind_its_lock : goal.ghosts-behind_its_lock
 ghosts-behind_its_lock g a =
-    record { ledger = name_at a.blanks; setting = a.session.session.setting; book = a.opened.book; root = a.opened.root; first = gen a.session.session.journal }
+    record { ledger = ledger_at a.blanks; setting = a.session.session.setting; book = a.opened.book; root = a.opened.root; first = gen a.session.session.journal }

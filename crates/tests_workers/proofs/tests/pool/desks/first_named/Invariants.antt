@@ -1,8 +1,8 @@
 use Rattle.pcef_model.specs.Journals.{gen}
-use Rattle.pcef_share.specs.Names.{name_at}
+use Rattle.pcef_share.specs.Names.{ledger_at}
 use Rattle.tests_workers.proofs.tests.pool.desks.first_named.Given as goal
 
 -- the name of the session, of its blanks and of its opened history
 abbrev pub ghosts-second_named : goal.ghosts-second_named
 ghosts-second_named g a =
-    record { ledger = name_at a.blanks; setting = a.side.session.session.setting; book = a.side.opened.book; root = a.side.opened.root; first = gen a.side.session.session.journal }
+    record { ledger = ledger_at a.blanks; setting = a.side.session.session.setting; book = a.side.opened.book; root = a.side.opened.root; first = gen a.side.session.session.journal }
