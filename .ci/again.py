@@ -2,6 +2,7 @@
 import json
 import os
 import random
+import signal
 import subprocess
 import time
 
@@ -34,6 +35,8 @@ class Life:
         return {"do": "renew"}
 
     def attach(self):
+        if self.next == 16:
+            return self.renew()
         self.workers.append(self.next)
         self.next += 1
         return {"do": "attach"}
@@ -81,10 +84,9 @@ class Life:
         if not self.is_open and self.dice.random() < 0.8:
             said = self.begin()
         else:
-            steps = [(self.take, 30), (self.attach, 5), (self.finish, 7), (self.renew, 12), (self.end, 30 if self.is_over else 1.5),
-                     (self.install, 8), (self.command, 12), (lambda: {"do": "show"}, 4),
-                     (lambda: {"do": "flush", "worker": self.worker()}, 10),
-                     (self.over, 0.5)]
+            steps = [(self.take, 30), (self.attach, 5), (self.finish, 7), (self.renew, 12), (self.install, 8),
+                     (self.command, 12), (lambda: {"do": "show"}, 4), (self.over, 0.5),
+                     (lambda: {"do": "flush", "worker": self.worker()}, 10), (self.end, 30 if self.is_over else 1.5)]
             said = self.dice.choices([step for step, _ in steps], [weight for _, weight in steps])[0]()
         text = json.dumps(said)
         odd = self.dice.random()
@@ -130,6 +132,17 @@ def compare(engine, partition, lines):
     return twice, octets(due)
 
 
+def before(engine, name, filter_words):
+    """The program behind a filter of its lines."""
+    file = os.path.join(engine.room, name)
+    with open(file, "w", encoding="utf-8") as text:
+        text.write(f"""#!/bin/sh
+{filter_words} | '{MANY}' "$1"
+""")
+    os.chmod(file, 0o700)
+    return file
+
+
 def killer(engine):
     """The library that kills a client at a step."""
     file = os.path.join(engine.room, "kill-at.so")
@@ -140,8 +153,10 @@ def killer(engine):
 
 
 def killed_at_random_places(engine):
-    """Processes are killed one after the other, at a line of their program or at a wait for the engine."""
+    """Processes are killed one after the other, at a line of their program or at a wait for the engine. Some have a
+    program without the word `lines`."""
     dice, library, at = random.Random(11), killer(engine), 0
+    without = before(engine, "without", """sed -u 's/ {"do":"lines"}$/ {"do":"unknown"}/'""")
     lines = lives(12, 4000)
     for _ in range(KILLS):
         size = dice.randrange(20, 120)
@@ -150,10 +165,11 @@ def killed_at_random_places(engine):
         how = {"LD_PRELOAD": library, "KILL_AT": str(dice.randrange(1, steps + 1))}
         how.update({"KILL_AT_LINES": "1"} if by_line else {})
         how.update({"KILL_LATE": "1"} if dice.random() < 0.5 else {})
-        before = dice.randrange(size)
-        engine.send_all(lines[at:at + before], 0)
+        how.update({"many": without} if dice.random() < 0.2 else {})
+        some = at + dice.randrange(size)
+        engine.send_all(lines[at:some], 0)
         process = engine.serve(0, **how)
-        engine.send_all(lines[at + before:at + size], 0)
+        engine.send_all(lines[some:at + size], 0)
         try:
             process.wait(2)
         except subprocess.TimeoutExpired:
@@ -165,8 +181,8 @@ def killed_at_random_places(engine):
     await_for(20, f"{engine.name}: the answers behind {KILLS} kills", lambda: engine.has_answered(0, at + 500))
     engine.ended_by_term(process, 0)
     twice, told = compare(engine, 0, lines[:at + 500])
-    print(f"{engine.name}: {KILLS} processes, one after the other, are killed in {at} lines: answers as in one process, "
-          f"{told} octets reported, {twice} answers twice", flush=True)
+    print(f"{engine.name}: {KILLS} processes, one after the other, are killed in {at} lines: answers as in one "
+          f"process, {told} octets reported, {twice} answers twice", flush=True)
 
 
 def moved(engine):
@@ -177,7 +193,10 @@ def moved(engine):
         engine.send_all(lines[at:at + size], 1)
         process = engine.serve(1)
         time.sleep(dice.random() * (1.5 if isinstance(engine, Kafka) else 0.05))
-        engine.ended_by_term(process, 0)
+        process.terminate()
+        # One that doesn't catch it yet has begun nothing.
+        if process.wait(20) not in (0, -signal.SIGTERM):
+            fail(f"{engine.name}: a client that gets TERM ends with status {process.returncode}")
         at += size
     process = engine.serve(1)
     await_for(20, f"{engine.name}: the answers of a moved partition", lambda: engine.has_answered(1, at))
@@ -206,17 +225,6 @@ def life(name):
     return begin, packets, said(name, {"do": "renew"}), said(name, {"do": "show"})
 
 
-def counting(engine):
-    """The program, with its lines in a file."""
-    file, lines = os.path.join(engine.room, "counting"), os.path.join(engine.room, "lines")
-    with open(file, "w", encoding="utf-8") as text:
-        text.write(f"""#!/bin/sh
-tee '{lines}' | '{MANY}' "$1"
-""")
-    os.chmod(file, 0o700)
-    return file, lines
-
-
 def passed_over(engine):
     """Of a session that was renewed the program gets its list and the lines behind, and none of the lines before."""
     begin, packets, renew, show = life("renewed")
@@ -230,7 +238,8 @@ def passed_over(engine):
     listed = sum(len(json.loads(record.split(b" ", 1)[1])) for record in records.values())
     # The record of `first` was written behind its `open`.
     due = listed + len(first[0]) - 1 + len(behind) + len(first[1]) + 1
-    program, file = counting(engine)
+    file = os.path.join(engine.room, "got")
+    program = before(engine, "counting", f"tee '{file}'")
     engine.send_all(show, 2)
     process = engine.serve(2, many=program)
     await_for(20, "the answer behind", lambda: engine.has_answered(2, len(lines) + 1))
@@ -253,10 +262,13 @@ def a_thousand_again(engine):
     engine.ended_by_term(process, 0)
     fresh = said("again-0", {"do": "show"})
     engine.send_all(fresh, 3)
+    arrivals = engine.arrivals()
+    for _ in engine.answers():
+        next(arrivals)
     since = time.monotonic()
     process = engine.serve(3)
-    await_for(20, "the answer of a fresh line",
-              lambda: any(answer[:2] == (3, len(lines)) for answer in engine.newest_answers()))
+    if next(arrivals) != (3, len(lines)):
+        fail(f"{engine.name}: another answer than that of a fresh line comes first")
     took = time.monotonic() - since
     engine.ended_by_term(process, 0)
     compare(engine, 3, lines + fresh)
@@ -279,14 +291,14 @@ def older_lines_are_dropped(engine):
     process = engine.serve(0)
     await_for(20, "the answers before", lambda: engine.has_answered(0, len(lines)))
     engine.ended_by_term(process, 0)
-    lines += engine.drop(0, len(old), fill)
+    lines += engine.drop(0, range(len(old), len(lines) - len(renewals) + 1), fill)
     engine.send_all(behind, 0)
     process = engine.serve(0)
     lines += behind
     await_for(20, "the answers behind", lambda: engine.has_answered(0, len(lines)))
     engine.ended_by_term(process, 0)
     compare(engine, 0, lines)
-    engine.drop_too_much(0, len(lines), fill)
+    engine.drop_too_much(0, fill)
     engine.ends("whose lines are gone", engine.serve(0), 4, "lines of an open session are gone")
     print(f"{engine.name}: lines before the renewals are dropped, and answers are as before; where more lines are "
           "dropped, a client ends with 4", flush=True)

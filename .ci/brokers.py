@@ -122,17 +122,19 @@ class Kafka(Engine):
         """The place of the first line that the partition keeps."""
         return int(re.search(rb"offset (\d+)", self.kcat("-Q", "-t", f"lines:{partition}:-2")).group(1))
 
-    def drop(self, partition, place, fill):
-        """Lets go of the lines before a place, by lines that fill the partition; gives these."""
+    def drop(self, partition, firsts, fill):
+        """Lets go of older lines, so that one of these is the first, by lines that fill the partition; gives these."""
         filled = []
-        while self.first_kept(partition) < place:
+        while self.first_kept(partition) < firsts[0]:
             self.send_all(fill, partition)
             filled += fill
+        if self.first_kept(partition) not in firsts:
+            fail(f"{self.name}: the brokers dropped lines up to {self.first_kept(partition)}, which is none of {firsts}")
         return filled
 
-    def drop_too_much(self, partition, _count, fill):
+    def drop_too_much(self, partition, fill):
         places = [int(record.split(b" ")[0]) for record in self.records(partition).values()]
-        self.drop(partition, min(places) + 1, fill)
+        self.drop(partition, range(min(places) + 1, max(places) + 100), fill)
 
     def place(self, _partition, place):
         """The place behind a line, as records have it."""
@@ -154,8 +156,19 @@ class Kafka(Engine):
         newest = {name: (size, record) for name, size, record in (line.split(b" ", 2) for line in told.splitlines())}
         return {name: record for name, (size, record) in newest.items() if size != b"-1"}
 
-    def answers(self, since="beginning"):
-        told, at = self.kcat("-C", "-e", "-t", "answers", "-o", since, "-f", "%h %K %S\n%k%s"), 0
+    def arrivals(self):
+        """The partition and place of each answer, at once when it comes."""
+        words = ["kcat", "-q", "-u", "-b", self.brokers, "-C", "-t", "answers", "-o", "beginning", "-f", "%h %s\n"]
+        with subprocess.Popen([*words, "-X", "fetch.wait.max.ms=20"], stdout=subprocess.PIPE) as watcher:
+            try:
+                for line in watcher.stdout:
+                    partition, place, _ = line.split(b" ", 2)
+                    yield int(partition[len("partition="):]), int(place)
+            finally:
+                watcher.kill()
+
+    def answers(self):
+        told, at = self.kcat("-C", "-e", "-t", "answers", "-o", "beginning", "-f", "%h %K %S\n%k%s"), 0
         while at < len(told):
             end = told.index(b"\n", at)
             partition, key, value = map(int, told[at:end].replace(b"partition=", b"").split())
@@ -164,9 +177,6 @@ class Kafka(Engine):
             place, text = told[at + key:at + key + value].split(b" ", 1)
             yield partition, int(place), told[at:at + key] if has_key else None, text
             at += key + value
-
-    def newest_answers(self):
-        return self.answers("-1")
 
     def answers_so_far(self):
         return subprocess.run([f"{HERE}/answers_so_far", self.brokers], stdout=subprocess.PIPE, check=True).stdout
@@ -228,13 +238,15 @@ class Streams(Engine):
         for first in range(0, len(entries), 1000):
             self.add(entries[first:first + 1000])
 
-    def drop(self, partition, _place, _fill):
-        """Lets go of the lines before the least record's, as docs/SCALING.md has it; no line is sent for that."""
+    def drop(self, partition, firsts, _fill):
+        """Lets go of older lines, so that the last of these is the first, as docs/SCALING.md has it; sends no line."""
         least = min((record.split(b" ")[0] for record in self.records(partition).values()), key=self.numbers)
+        if least != self.place(partition, firsts[-1]):
+            fail(f"{self.name}: the least record is of {least}, where {self.place(partition, firsts[-1])} is due")
         self.call([b"XTRIM", b"lines:%d" % partition, b"MINID", least])
         return []
 
-    def drop_too_much(self, partition, _count, _fill):
+    def drop_too_much(self, partition, _fill):
         self.call([b"XTRIM", b"lines:%d" % partition, b"MAXLEN", b"1"])
 
     @staticmethod
@@ -255,13 +267,17 @@ class Streams(Engine):
         told = self.call([b"HGETALL", b"sessions:%d" % partition])[0]
         return dict(zip(told[::2], told[1::2]))
 
-    def answers(self, *newest):
-        words = [b"XREVRANGE", b"answers", b"+", b"-", b"COUNT", b"1"] if newest else [b"XRANGE", b"answers", b"-", b"+"]
-        for _, (_, name, _, at, _, text) in self.call(words)[0]:
-            yield (*self.places[at], name, text)
+    def arrivals(self):
+        """The partition and place of each answer, at once when it comes."""
+        last = b"0"
+        while True:
+            for _, entries in self.call([b"XREAD", b"BLOCK", b"0", b"STREAMS", b"answers", last])[0]:
+                for last, fields in entries:
+                    yield self.places[fields[3]]
 
-    def newest_answers(self):
-        return self.answers("newest")
+    def answers(self):
+        for _, (_, name, _, at, _, text) in self.call([b"XRANGE", b"answers", b"-", b"+"])[0]:
+            yield (*self.places[at], name, text)
 
     def answers_so_far(self):
         told = sorted((name, at, text) for _, at, name, text in self.answers())

@@ -97,8 +97,8 @@ static struct place last_entry(struct service *it) {
 
 /* Whether the stream has an entry; it has all behind it then, as it is trimmed from its begin on. */
 static bool has_entry(struct service *it, const char *entry) {
-    const char *words = "XRANGE lines:%s %s %s";
-    redisReply *found = good(it, "the stream can't be read", redisCommand(it->redis, words, it->partition, entry, entry));
+    redisReply *found = redisCommand(it->redis, "XRANGE lines:%s %s %s", it->partition, entry, entry);
+    found = good(it, "the stream can't be read", found);
     bool is_there = found && found->elements == 1;
     if (found) freeReplyObject(found);
     return is_there;

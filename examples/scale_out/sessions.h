@@ -1,6 +1,6 @@
-/* The records of the sessions that are open. A record has what makes a session anew: a place, a space, and the list that
- * the program gave behind the last line that began it, an `open` or a `renew`. The session's lines up to that place are
- * in the list, and aren't played again. */
+/* The records of the sessions that are open. A record has a place, a space, and the list that the program gave behind
+ * the last line that began the session, an `open` or a `renew`. The list makes the session anew as it was there; its
+ * lines up to that place aren't played again. */
 #ifndef SESSIONS_H
 #define SESSIONS_H
 
@@ -8,7 +8,7 @@
 
 #include <jansson.h>
 
-/* Where the lines behind one begin: the offset behind it in Kafka, and 0; the two numbers of its identifier in Redis. */
+/* Where the lines behind one begin: the offset behind it and 0 in Kafka, the two numbers of its identifier in Redis. */
 struct place {
     unsigned long long number, rest;
 };
