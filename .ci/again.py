@@ -8,15 +8,15 @@ import time
 
 from brokers import MANY, PROFILE, Kafka, await_for, fail
 
-KILLS, MOVES, SESSIONS = 50, 10, 1000
+KILLS, MOVES, SESSIONS = 25, 10, 1000
 AT_MOST = 2.0
 
 
 class Life:
     """What is sent under one name. Its lines mostly fit what came before, and now and then they don't."""
 
-    def __init__(self, name, dice):
-        self.name, self.dice = name, dice
+    def __init__(self, name, dice, ends):
+        self.name, self.dice, self.ends = name, dice, ends
         self.is_open, self.is_over, self.workers, self.next = False, False, [], 0
 
     def begin(self):
@@ -86,7 +86,7 @@ class Life:
         else:
             steps = [(self.take, 30), (self.attach, 5), (self.finish, 7), (self.renew, 12), (self.install, 8),
                      (self.command, 12), (lambda: {"do": "show"}, 4), (self.over, 0.5),
-                     (lambda: {"do": "flush", "worker": self.worker()}, 10), (self.end, 30 if self.is_over else 1.5)]
+                     (lambda: {"do": "flush", "worker": self.worker()}, 10), (self.end, 30 if self.is_over else self.ends)]
             said = self.dice.choices([step for step, _ in steps], [weight for _, weight in steps])[0]()
         text = json.dumps(said)
         odd = self.dice.random()
@@ -99,10 +99,10 @@ class Life:
         return f"{self.name} {text}\n".encode()
 
 
-def lives(seed, count):
-    """Lines of a dozen sessions, as they take turns."""
+def lives(seed, count, names=12, ends=1.5):
+    """Lines of sessions that take turns."""
     dice = random.Random(seed)
-    all_lives = [Life(f"life-{number}", dice) for number in range(12)]
+    all_lives = [Life(f"life-{number}", dice, ends) for number in range(names)]
     return [dice.choice(all_lives).line() for _ in range(count)]
 
 
@@ -143,6 +143,20 @@ def before(engine, name, filter_words):
     return file
 
 
+def begun(engine, partition, lines):
+    """Each open session has a record of its last `open` or `renew` that was done, and no other one has any."""
+    due = {}
+    for place, (line, (name, answer)) in enumerate(zip(lines, due_answers(lines))):
+        word = json.loads(line.split(b" ", 1)[1])["do"]
+        if word in ("open", "renew") and json.loads(answer).get("ok"):
+            due[name] = engine.place(partition, place)
+        if word == "end":
+            due.pop(name, None)
+    came = {name: record.split(b" ", 1)[0] for name, record in engine.records(partition).items()}
+    if came != due:
+        fail(f"{engine.name}: the records are of {came}, where {due} are due")
+
+
 def killer(engine):
     """The library that kills a client at a step."""
     file = os.path.join(engine.room, "kill-at.so")
@@ -152,37 +166,45 @@ def killer(engine):
     return file
 
 
-def killed_at_random_places(engine):
-    """Processes are killed one after the other, at a line of their program or at a wait for the engine. Some have a
-    program without the word `lines`."""
-    dice, library, at = random.Random(11), killer(engine), 0
+def killed(engine, partition, lines, seed):
+    """Processes are killed one after the other: when their program has got some lines, before a message is sent, before
+    or behind a wait for the engine. Some have a program without the word `lines`. Gives the number of lines."""
+    dice, library, at = random.Random(seed), killer(engine), 0
     without = before(engine, "without", """sed -u 's/ {"do":"lines"}$/ {"do":"unknown"}/'""")
-    lines = lives(12, 4000)
     for _ in range(KILLS):
-        size = dice.randrange(20, 120)
-        by_line = dice.random() < 0.5
-        steps = size if by_line else 12 if isinstance(engine, Kafka) else 9 * size
-        how = {"LD_PRELOAD": library, "KILL_AT": str(dice.randrange(1, steps + 1))}
-        how.update({"KILL_AT_LINES": "1"} if by_line else {})
+        size = dice.randrange(10, 100)
+        steps = {"line": size, "send": size, "wait": 10} if isinstance(engine, Kafka) else {"line": size, "wait": 9 * size}
+        kind = dice.choice(list(steps))
+        how = {"LD_PRELOAD": library, "KILL_AT": f"{kind} {dice.randrange(steps[kind]) + 1}"}
         how.update({"KILL_LATE": "1"} if dice.random() < 0.5 else {})
-        how.update({"many": without} if dice.random() < 0.2 else {})
+        how.update({"many": without} if dice.random() < 0.15 else {})
         some = at + dice.randrange(size)
-        engine.send_all(lines[at:some], 0)
-        process = engine.serve(0, **how)
-        engine.send_all(lines[some:at + size], 0)
+        engine.send_all(lines[at:some], partition)
+        process = engine.serve(partition, **how)
+        engine.send_all(lines[some:at + size], partition)
         try:
             process.wait(2)
         except subprocess.TimeoutExpired:
             process.kill()
         engine.ends("that is killed", process, -9)
         at += size
-    engine.send_all(lines[at:at + 500], 0)
-    process = engine.serve(0)
-    await_for(20, f"{engine.name}: the answers behind {KILLS} kills", lambda: engine.has_answered(0, at + 500))
+    engine.send_all(lines[at:at + 300], partition)
+    process = engine.serve(partition)
+    await_for(20, f"{engine.name}: the answers behind {KILLS} kills",
+              lambda: engine.has_answered(partition, at + 300))
     engine.ended_by_term(process, 0)
-    twice, told = compare(engine, 0, lines[:at + 500])
-    print(f"{engine.name}: {KILLS} processes, one after the other, are killed in {at} lines: answers as in one "
-          f"process, {told} octets reported, {twice} answers twice", flush=True)
+    return at + 300
+
+
+def killed_at_random_places(engine):
+    """Partitions of two sessions, which end often, and of a dozen: the first begin again behind late lines."""
+    for partition, names, ends in ((0, 12, 1.5), (1, 2, 8)):
+        lines = lives(12, 4000, names, ends)
+        count = killed(engine, partition, lines, 11 + partition)
+        twice, told = compare(engine, partition, lines[:count])
+        begun(engine, partition, lines[:count])
+        print(f"{engine.name}: {KILLS} processes, one after the other, are killed in {count} lines of {names} names: "
+              f"answers as in one process, {told} octets reported, {twice} answers twice", flush=True)
 
 
 def moved(engine):
@@ -190,18 +212,18 @@ def moved(engine):
     dice, lines, at = random.Random(13), lives(14, 2000), 0
     for _ in range(MOVES):
         size = dice.randrange(100, 200)
-        engine.send_all(lines[at:at + size], 1)
-        process = engine.serve(1)
+        engine.send_all(lines[at:at + size], 2)
+        process = engine.serve(2)
         time.sleep(dice.random() * (1.5 if isinstance(engine, Kafka) else 0.05))
         process.terminate()
         # One that doesn't catch it yet has begun nothing.
         if process.wait(20) not in (0, -signal.SIGTERM):
             fail(f"{engine.name}: a client that gets TERM ends with status {process.returncode}")
         at += size
-    process = engine.serve(1)
-    await_for(20, f"{engine.name}: the answers of a moved partition", lambda: engine.has_answered(1, at))
+    process = engine.serve(2)
+    await_for(20, f"{engine.name}: the answers of a moved partition", lambda: engine.has_answered(2, at))
     engine.ended_by_term(process, 0)
-    twice, told = compare(engine, 1, lines[:at])
+    twice, told = compare(engine, 2, lines[:at])
     if twice:
         fail(f"{engine.name}: {twice} answers of a moved partition came twice")
     print(f"{engine.name}: a partition moves {MOVES} times in {at} lines: answers as in one process, {told} octets "
@@ -222,7 +244,8 @@ def life(name):
                  {"do": "monitor", "key": "vid", "grant": 50})
     packets = said(name, {"do": "attach"}, take, take, {"do": "flush", "worker": 0}, take,
                    {"do": "finish", "worker": 0})
-    return begin, packets, said(name, {"do": "renew"}), said(name, {"do": "show"})
+    renew = [name.encode() + rb' {"\u0064o": "\u0072enew"}' + b"\n"]
+    return begin, packets, renew, said(name, {"do": "show"})
 
 
 def passed_over(engine):

@@ -87,9 +87,10 @@ static void text_of(char *text, struct place place) {
 static struct place last_entry(struct service *it) {
     struct place last = {0, 0};
     redisReply *facts = redisCommand(it->redis, "XINFO STREAM lines:%s", it->partition);
-    /* A stream without an entry may not be there yet, which is an error. */
-    const redisReply *text = facts && facts->type == REDIS_REPLY_ARRAY ? field(facts, "last-generated-id") : NULL;
-    if (!facts) complain(it, "the stream can't be read", it->redis->errstr);
+    /* The stream may not be there yet. */
+    bool is_absent = facts && facts->type == REDIS_REPLY_ERROR && !strcmp(facts->str, "ERR no such key");
+    if (!is_absent) facts = good(it, "the stream can't be read", facts);
+    const redisReply *text = is_absent || !facts ? NULL : field(facts, "last-generated-id");
     if (text) last = place_of(text->str);
     if (facts) freeReplyObject(facts);
     return last;
