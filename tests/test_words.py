@@ -1,8 +1,13 @@
-"""The words of `pcef`: what is usage, and what stands below it."""
+"""The words of `pcef`: what is usage, what stands below it, and what is help."""
+import subprocess
+
 from commands import profile
 from programs import PCEF, ProgramTest
 
 USAGE = "usage: pcef script PROFILE | pcef run PROFILE WORKERS | pcef pool UP DOWN PROFILE..."
+
+# Words that ask for help. What stands behind is passed over.
+HELP = [["--help"], ["-h"], ["--help", "a"], ["script", "--help"], ["run", "-h", "a"], ["pool", "--help", "1", "2", "3"]]
 
 # Words that ask for nothing, and what stands below the usage.
 NAMED = [
@@ -41,10 +46,32 @@ class Words(ProgramTest):
             with self.subTest(words=words):
                 self.assertEqual(self.is_usage(words)[0], named)
 
-    def test_usage_tells_by_what_the_program_was_proved(self):
-        for words in ["--help"], ["--version", "profile.toml"]:
+    def test_usage_and_help_tell_by_what_the_program_was_proved(self):
+        proved = "with rattle-kit-13f logic dac8208d650f15bf"
+        self.assertIn(proved, "\n".join(self.is_usage([])))
+        below = "\n".join(self.is_usage([])[1:])
+        for words in HELP:
             with self.subTest(words=words):
-                self.assertIn("with rattle-kit-13f logic dac8208d650f15bf", "\n".join(self.is_usage(words)))
+                self.ends(PCEF, words, "x", wrote=f"{USAGE}\n{below}\n")
+
+    def test_the_version(self):
+        for words in ["--version"], ["-V"], ["--version", "profile.toml"], ["--version", "--help"]:
+            with self.subTest(words=words):
+                self.ends(PCEF, words, "x", wrote="pcef 0.1\n")
+
+    def test_words_that_look_like_help_and_ask_for_none(self):
+        for words in ["scripts", "--help"], ["--helped"], ["-H"], ["run", "a", "--help"], ["pool", "1", "--help"]:
+            with self.subTest(words=words):
+                self.is_usage(words)
+        said = "read fault\npcef: ./--help: No such file or directory (os error 2)\n"
+        self.ends(PCEF, ["script", "./--help"], status=4, said=said)
+        said = "read fault\npcef: --version: No such file or directory (os error 2)\n"
+        self.ends(PCEF, ["script", "--version"], status=4, said=said)
+
+    def test_help_that_nobody_takes(self):
+        with open("/dev/full", "wb") as full:
+            ran = subprocess.run([PCEF, "--help"], stdout=full, stderr=subprocess.PIPE, timeout=60)
+        self.assertEqual((ran.returncode, ran.stderr), (4, b"write fault\n"))
 
     def test_numbers_of_workers(self):
         for workers in NO_WORKERS:

@@ -287,7 +287,7 @@ fn answer(rt: &HostRuntime, words: &[String]) -> u8 {
         }
         Ok(Some(Request::TwoUsers)) => refuse_usage(rt, "--ue and --sessions exclude each other"),
         Ok(None) => refuse_usage(rt, "an option has no value"),
-        Err(error) => refuse(rt, &error),
+        Err(error) => refuse(rt, "pcef_capture", &error),
     }
 }
 

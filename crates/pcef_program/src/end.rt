@@ -14,10 +14,10 @@ use pcef_script::ScriptFault;
 use std::alloc::{AllocError, Global};
 use std::io::ErrorKind;
 
-const USAGE: &str =
+pub(crate) const USAGE: &str =
     "usage: pcef script PROFILE | pcef run PROFILE WORKERS | pcef pool UP DOWN PROFILE...\n";
 
-const USAGE_NOTE: &str = "
+pub(crate) const USAGE_NOTE: &str = "
   script PROFILE       opens a session by the file PROFILE, and answers each line of standard input with a
                        line on standard output, as soon as it can
   run PROFILE WORKERS  reads all commands and packets from standard input, spreads the packets over WORKERS threads,
@@ -26,6 +26,7 @@ const USAGE_NOTE: &str = "
                        reads all lines of standard input, each the number of a session, from 0, a space and a
                        command; opens a session for each of 1 to 64 profiles on a pool of UP and DOWN guaranteed
                        bit/s, answers each command with a line, and prints what the pool has granted
+  --help, --version    prints this text, or the version
 
 Example: pcef script examples/profile.toml < examples/tutorial.jsonl
 Exit status: 0, 1 a profile or a line at fault, 2 usage, 3 want of memory, 4 a read, write or run fault

@@ -134,7 +134,7 @@ fn status(rt: &HostRuntime) -> u8
             );
             2
         }
-        Err(error) => refuse(rt, &error),
+        Err(error) => refuse(rt, "pcef_report", &error),
     }
 }
 
