@@ -183,7 +183,7 @@ fn input_of_session<'a>(
         address,
     } = session_in(rt, options, name, &mut times)?;
     let figures = collect_figures(rt, options, &lines, &answers)?;
-    let stamps = times.from(first)?;
+    let stamps = times.stamps_from(first)?;
     let profile = profile_address(rt, options)?;
     Ok(Input {
         figures,

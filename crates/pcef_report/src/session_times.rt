@@ -15,7 +15,7 @@ pub(crate) struct SessionTimes<'a> {
 }
 
 impl<'a> SessionTimes<'a> {
-    /// The times in a file, of which none is read yet, or no times. A file that can't be opened is told by `from`.
+    /// The times in a file, of which none is read yet, or no times. `stamps_from` tells of a file that can't be opened.
     pub(crate) fn open(rt: &HostRuntime, file: Option<&'a str>) -> SessionTimes<'a> {
         let mut times = SessionTimes {
             file: file.unwrap_or(""),
@@ -75,7 +75,7 @@ impl<'a> SessionTimes<'a> {
     /// were taken.
     ///
     /// An `Err` is the first fault of the times.
-    pub(crate) fn from(self, first: u64) -> Result<Option<Vec<Stamp>>, End<'a>> {
+    pub(crate) fn stamps_from(self, first: u64) -> Result<Option<Vec<Stamp>>, End<'a>> {
         let SessionTimes {
             file,
             left,
