@@ -1,10 +1,14 @@
 """The words of `pcef`: what is usage, what stands below it, and what is help."""
+import os
 import subprocess
 
 from commands import profile
-from programs import PCEF, ProgramTest
+from programs import PCEF, PCEF_CAPTURE, PCEF_CHECK, PCEF_GX_FILTER, PCEF_MANY, PCEF_REPORT, ProgramTest, lines
 
 USAGE = "usage: pcef script PROFILE | pcef run PROFILE WORKERS | pcef pool UP DOWN PROFILE..."
+
+# The programs over clap.
+OTHERS = PCEF_CAPTURE, PCEF_CHECK, PCEF_GX_FILTER, PCEF_MANY, PCEF_REPORT
 
 # Words that ask for help. What stands behind is passed over.
 HELP = [["--help"], ["-h"], ["--help", "a"], ["script", "--help"], ["run", "-h", "a"], ["pool", "--help", "1", "2", "3"]]
@@ -54,6 +58,12 @@ class Words(ProgramTest):
             with self.subTest(words=words):
                 self.ends(PCEF, words, "x", wrote=f"{USAGE}\n{below}\n")
 
+    def test_each_program_has_a_version(self):
+        for program in OTHERS:
+            for word in "--version", "-V":
+                with self.subTest(program=program, word=word):
+                    self.ends(program, [word], wrote=f"{os.path.basename(program)} 0.1\n")
+
     def test_the_version(self):
         for words in ["--version"], ["-V"], ["--version", "profile.toml"], ["--version", "--help"]:
             with self.subTest(words=words):
@@ -68,10 +78,26 @@ class Words(ProgramTest):
         said = "read fault\npcef: --version: No such file or directory (os error 2)\n"
         self.ends(PCEF, ["script", "--version"], status=4, said=said)
 
+    def help_on(self, program, stream):
+        """How the program ends that writes its help on a stream, and what it says."""
+        with stream:
+            ran = subprocess.run([program, "--help"], stdout=stream, stderr=subprocess.PIPE, timeout=60)
+        return ran.returncode, ran.stderr.decode()
+
     def test_help_that_nobody_takes(self):
-        with open("/dev/full", "wb") as full:
-            ran = subprocess.run([PCEF, "--help"], stdout=full, stderr=subprocess.PIPE, timeout=60)
-        self.assertEqual((ran.returncode, ran.stderr), (4, b"write fault\n"))
+        self.assertEqual(self.help_on(PCEF, open("/dev/full", "wb")), (4, "write fault\n"))
+        for program in OTHERS:
+            said = f"{os.path.basename(program)}: standard output: No space left on device (os error 28)"
+            with self.subTest(program=program):
+                self.assertEqual(self.help_on(program, open("/dev/full", "wb")), (4, lines("write fault", said)))
+
+    def test_help_whose_reader_has_left(self):
+        for program in PCEF, *OTHERS:
+            with self.subTest(program=program):
+                reader, writer = os.pipe()
+                os.close(reader)
+                said = "write fault\n" if program == PCEF else ""
+                self.assertEqual(self.help_on(program, os.fdopen(writer, "wb")), (4, said))
 
     def test_numbers_of_workers(self):
         for workers in NO_WORKERS:
