@@ -11,7 +11,7 @@ USAGE = "usage: pcef script PROFILE | pcef run PROFILE WORKERS | pcef pool UP DO
 OTHERS = PCEF_CAPTURE, PCEF_CHECK, PCEF_GX_FILTER, PCEF_MANY, PCEF_REPORT
 
 # Words that ask for help. What stands behind is passed over.
-HELP = [["--help"], ["-h"], ["--help", "a"], ["script", "--help"], ["run", "-h", "a"], ["pool", "--help", "1", "2", "3"]]
+HELP = [["--help"], ["-h"], ["--help", "a"], ["script", "--help"], ["run", "-h", "a"], ["pool", "--help", "1", "2"]]
 
 # Words that ask for nothing, and what stands below the usage.
 NAMED = [
