@@ -83,12 +83,12 @@ class Pools(ProgramTest):
     def test_the_first_line_that_is_no_order_is_reported(self):
         for wrong, message in WRONG:
             with self.subTest(wrong=wrong):
-                said = lines("line 3 fault", message, "Nothing was run.")
+                said = lines("line 3 fault", f"pcef: {message}", "pcef: nothing was run")
                 self.pool(9, 2, "0 " + voice(1, 1), "", wrong, "y", status=1, said=said)
 
     def test_a_pool_with_one_session_has_number_0(self):
-        message = "NoSession: the session is 1: 0 is expected"
-        self.pool(9, 1, "1 " + CLOSE, status=1, said=lines("line 1 fault", message, "Nothing was run."))
+        said = lines("line 1 fault", "pcef: NoSession: the session is 1: 0 is expected", "pcef: nothing was run")
+        self.pool(9, 1, "1 " + CLOSE, status=1, said=said)
 
     def test_commands_of_one_session_leave_the_other_alone(self):
         stopped = '[{"cause":"Disabled","key":"vid","number":0,"octets":0}]'

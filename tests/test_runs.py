@@ -125,7 +125,7 @@ class Runs(ProgramTest):
     def test_the_first_unfit_line_is_reported(self):
         for workers, unfit, message in UNFIT:
             with self.subTest(message=message):
-                said = lines("line 4 fault", message, "Nothing was run.")
+                said = lines("line 4 fault", f"pcef: {message}", "pcef: nothing was run")
                 self.run_ends(workers, [WEB, "", FIRST, unfit, "x"], status=1, said=said)
 
     def test_a_session_that_is_closed_before_its_packets(self):

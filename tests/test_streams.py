@@ -49,7 +49,7 @@ PLAYED = [(SCRIPT, SESSION, 0), (SCRIPT, AT_FAULT, 1), (SESSIONS, MANY, 1)]
 
 # What is said of streams that fail.
 UNREAD = {
-    PCEF: lines("read fault", "Standard input fails; the whole lines of a script before that are answered."),
+    PCEF: lines("read fault", "pcef: standard input fails; the whole lines of a script before that are answered"),
     PCEF_MANY: lines("read fault", "pcef_many: standard input failed"),
 }
 UNWRITTEN = {

@@ -1,8 +1,17 @@
-"""The words of `pcef`: what is usage, and what stands below it."""
+"""The words of `pcef`: what is usage, what stands below it, and what is help."""
+import os
+import subprocess
+
 from commands import profile
-from programs import PCEF, ProgramTest
+from programs import PCEF, PCEF_CAPTURE, PCEF_CHECK, PCEF_GX_FILTER, PCEF_MANY, PCEF_REPORT, ProgramTest, lines
 
 USAGE = "usage: pcef script PROFILE | pcef run PROFILE WORKERS | pcef pool UP DOWN PROFILE..."
+
+# The programs over clap.
+OTHERS = PCEF_CAPTURE, PCEF_CHECK, PCEF_GX_FILTER, PCEF_MANY, PCEF_REPORT
+
+# Words that ask for help. What stands behind is passed over.
+HELP = [["--help"], ["-h"], ["--help", "a"], ["script", "--help"], ["run", "-h", "a"], ["pool", "--help", "1", "2"]]
 
 # Words that ask for nothing, and what stands below the usage.
 NAMED = [
@@ -41,10 +50,54 @@ class Words(ProgramTest):
             with self.subTest(words=words):
                 self.assertEqual(self.is_usage(words)[0], named)
 
-    def test_usage_tells_by_what_the_program_was_proved(self):
-        for words in ["--help"], ["--version", "profile.toml"]:
+    def test_usage_and_help_tell_by_what_the_program_was_proved(self):
+        proved = "with rattle-kit-13f logic dac8208d650f15bf"
+        self.assertIn(proved, "\n".join(self.is_usage([])))
+        below = "\n".join(self.is_usage([])[1:])
+        for words in HELP:
             with self.subTest(words=words):
-                self.assertIn("with rattle-kit-13f logic dac8208d650f15bf", "\n".join(self.is_usage(words)))
+                self.ends(PCEF, words, "x", wrote=f"{USAGE}\n{below}\n")
+
+    def test_each_program_has_a_version(self):
+        for program in OTHERS:
+            for word in "--version", "-V":
+                with self.subTest(program=program, word=word):
+                    self.ends(program, [word], wrote=f"{os.path.basename(program)} 0.1\n")
+
+    def test_the_version(self):
+        for words in ["--version"], ["-V"], ["--version", "profile.toml"], ["--version", "--help"]:
+            with self.subTest(words=words):
+                self.ends(PCEF, words, "x", wrote="pcef 0.1\n")
+
+    def test_words_that_look_like_help_and_ask_for_none(self):
+        for words in ["scripts", "--help"], ["--helped"], ["-H"], ["run", "a", "--help"], ["pool", "1", "--help"]:
+            with self.subTest(words=words):
+                self.is_usage(words)
+        said = "read fault\npcef: ./--help: No such file or directory (os error 2)\n"
+        self.ends(PCEF, ["script", "./--help"], status=4, said=said)
+        said = "read fault\npcef: --version: No such file or directory (os error 2)\n"
+        self.ends(PCEF, ["script", "--version"], status=4, said=said)
+
+    def help_on(self, program, stream):
+        """How the program ends that writes its help on a stream, and what it says."""
+        with stream:
+            ran = subprocess.run([program, "--help"], stdout=stream, stderr=subprocess.PIPE, timeout=60)
+        return ran.returncode, ran.stderr.decode()
+
+    def test_help_that_nobody_takes(self):
+        self.assertEqual(self.help_on(PCEF, open("/dev/full", "wb")), (4, "write fault\n"))
+        for program in OTHERS:
+            said = f"{os.path.basename(program)}: standard output: No space left on device (os error 28)"
+            with self.subTest(program=program):
+                self.assertEqual(self.help_on(program, open("/dev/full", "wb")), (4, lines("write fault", said)))
+
+    def test_help_whose_reader_has_left(self):
+        for program in PCEF, *OTHERS:
+            with self.subTest(program=program):
+                reader, writer = os.pipe()
+                os.close(reader)
+                said = "write fault\n" if program == PCEF else ""
+                self.assertEqual(self.help_on(program, os.fdopen(writer, "wb")), (4, said))
 
     def test_numbers_of_workers(self):
         for workers in NO_WORKERS:

@@ -11,7 +11,6 @@ mod following;
 mod hint;
 mod looking;
 mod map;
-mod progress;
 mod report;
 mod sessions;
 mod stopped;
@@ -28,9 +27,8 @@ use pcef_capture_script::{
     write_capture,
 };
 use pcef_command_line::{gather, refuse, report_no_memory};
-use pcef_output::Fused;
+use pcef_output::{Fused, Progress, Watched};
 use pcef_packet::Addr;
-use progress::Watched;
 use report::{Asked, report_counts, report_end, report_map, report_read};
 use sessions::Sessions;
 use std::fs::{self, File};
@@ -171,7 +169,11 @@ fn run(
     }
     match File::open(rt, path) {
         Ok(file) => {
-            let mut file = Watched::new(rt, file);
+            let len = match file.metadata() {
+                Ok(metadata) => metadata.len(),
+                Err(_) => 0,
+            };
+            let mut file = Watched::new(file, Progress::new(rt, len));
             write(rt, asked, work, waiting, &mut file)
         }
         Err(error) => Stopped::at_read(error),
@@ -285,7 +287,7 @@ fn answer(rt: &HostRuntime, words: &[String]) -> u8 {
         }
         Ok(Some(Request::TwoUsers)) => refuse_usage(rt, "--ue and --sessions exclude each other"),
         Ok(None) => refuse_usage(rt, "an option has no value"),
-        Err(error) => refuse(rt, &error),
+        Err(error) => refuse(rt, "pcef_capture", &error),
     }
 }
 

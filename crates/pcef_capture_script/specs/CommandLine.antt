@@ -16,7 +16,7 @@ use Rattle.pcef_capture_script.specs.declared.options.Users.{Users}
 use Rattle.pcef_capture_script.specs.declared.options.Users.TheVariants as users
 
 -- ---- the options: --ue ADDRESS, --sessions MAP, --workers N from 1 to 16, --batch N from 1 to 32, --pad, --gtp,
--- --teid N of 32 bits, --times FILE; and FILE
+-- --teid N of 32 bits, --times FILE; and FILE. clap adds --help, and --version where there is one.
 abbrev pub ue_rule : Rule
 ue_rule = record (new_rule (codes "ue")) { long = Some (codes "ue"); value_names = 1; action = Some Set }
 
@@ -62,8 +62,11 @@ abbrev pub file_rule : Rule
 file_rule = record (new_rule (codes "file")) { value_names = 1; required = true; action = Some Set }
 
 -- the command line, rule by rule
+abbrev pub with_version : App → App
+with_version a = record a { top = record a.top { has_version = true } }
+
 abbrev pub line_to_ue : App
-line_to_ue = with_rule (new_app (codes "pcef_capture")) ue_rule
+line_to_ue = with_rule (with_version (new_app (codes "pcef_capture"))) ue_rule
 
 abbrev pub line_to_sessions : App
 line_to_sessions = with_rule line_to_ue sessions_rule
@@ -94,11 +97,11 @@ command_line = with_rule line_to_times file_rule
 abbrev pub given : List Text → Text → Option Text
 given words name = one_of name (matches_of command_line words)
 
--- the same, as it is as_written
+-- the same, as it is written
 abbrev pub as_written : List Text → Text → Option Text
 as_written words name = first_of name (matches_of command_line words)
 
--- Whose packets are asked for, by the texts of --ue and --sessions: one of them is wanted. An address is as_written as a
+-- Whose packets are asked for, by the texts of --ue and --sessions: one of them is wanted. An address is written as a
 -- profile writes it.
 abbrev pub AreUsers : Option Text → Option Text → Result Users Request → Type 0
 AreUsers (Some text) None (Ok (users.One address)) = WritesAddress text address
@@ -114,7 +117,7 @@ pub record ArePackets (words : List Text) (p : Packets) : Type 0 where
   pub gtp : as_written words (codes "teid") ≡ None → given words (codes "gtp") ≡ Some (codes "true") → p ≡ packets.OfTunnels
   pub gtp_not : as_written words (codes "teid") ≡ None → given words (codes "gtp") ≡ Some (codes "false") → p ≡ packets.OfFrames
 
--- the numbers of workers and of packets in a batch are those that are as_written; packets are padded where
+-- the numbers of workers and of packets in a batch are those that are written; packets are padded where
 -- that is asked for; the files are those that are named
 pub record AsksCapture (words : List Text) (o : Options) : Type 0 where
   pub users : AreUsers (as_written words (codes "ue")) (as_written words (codes "sessions")) (Ok o.users)

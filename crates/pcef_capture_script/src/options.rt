@@ -182,6 +182,7 @@ fn with_ue<'a>(alloc: Global) -> Result<Command<'a>, AllocError>
     ensures { IfOk result (λ more. app_of more ≡ line_to_ue) }
 {
     Command::new(alloc, "pcef_capture")
+        .version("0.1")
         .about("Writes the packets of a capture as lines of a script of pcef, or of pcef_many")
         .arg(ue(alloc))
 }

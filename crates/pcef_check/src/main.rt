@@ -155,7 +155,7 @@ fn status_with(rt: &HostRuntime, catalog: &ShapedCatalog) -> u8
             let _ = eprintln!(rt; "usage: an option has no value");
             2
         }
-        Err(error) => refuse(rt, &error),
+        Err(error) => refuse(rt, "pcef_check", &error),
     }
 }
 

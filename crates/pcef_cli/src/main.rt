@@ -18,11 +18,11 @@ use pcef_built_in::{
 use pcef_catalog::{Catalog, Detect, Predefined};
 use pcef_output::Fused;
 use pcef_packet::Header;
-use pcef_program::{Arguments, Environment, run_program};
+use pcef_program::{Arguments, Environment, Shown, run_program, shown_by};
 use pcef_run::{Storing, Taken};
 use pcef_trigger::{Outlet, ReportKind, Reporter};
 use std::alloc::AllocError;
-use std::io::{self, BufWriter};
+use std::io::{self, BufWriter, ErrorKind, Write};
 use std::process::ExitCode;
 use std::sync::{Arc, Wait};
 use std::thread::Threads;
@@ -83,7 +83,29 @@ fn run_storing<T: Threads + Wait + Sync>(
     }
 }
 
-/// Runs the program as its words ask.
+/// Writes a text about the program on standard output.
+fn write_shown(rt: &HostRuntime, shown: Shown) -> io::Result<()> {
+    let mut writer = BufWriter::new(rt.alloc(), Fused::new(io::writer(rt)))?;
+    writer.write_all(shown.line().as_bytes())?;
+    writer.write_all(shown.note().as_bytes())?;
+    writer.flush()
+}
+
+/// Shows a text about the program, and returns the exit status: 0, or 4 where it can't be written.
+fn show(rt: &HostRuntime, shown: Shown) -> io::Result<u8>
+    ensures { IfOk result (λ status. status ≤ 4) }
+{
+    match write_shown(rt, shown) {
+        Ok(()) => Ok(0),
+        Err(error) if error.kind() == ErrorKind::OutOfMemory => Err(error),
+        Err(_) => {
+            let _ = eprintln!(rt; "write fault");
+            Ok(4)
+        }
+    }
+}
+
+/// Runs the program as its words ask, or shows the text about it that they ask for.
 fn run_with<T: Threads + Wait + Sync>(
     threads: &T,
     rt: &HostRuntime,
@@ -94,6 +116,9 @@ fn run_with<T: Threads + Wait + Sync>(
 {
     let alloc = rt.alloc();
     let words = words(alloc, rt)?;
+    if let Some(shown) = shown_by(&words) {
+        return show(rt, shown);
+    }
     let profiles = profiles_of(rt, &words)?;
     let taken = Arc::new(alloc, Taken::new())?;
     let arguments = Arguments {

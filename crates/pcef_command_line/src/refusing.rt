@@ -6,6 +6,7 @@ ghost use Rattle.pcef_command_line.specs.Statuses.{IsStatusDue};
 
 use clap::Error;
 use clap::error::ErrorKind;
+use std::io;
 
 /// Reports `want of memory` on standard error, and returns its exit status. A failing write changes nothing.
 pub fn report_no_memory(rt: &HostRuntime) -> u8
@@ -17,8 +18,8 @@ pub fn report_no_memory(rt: &HostRuntime) -> u8
 
 /// Reports an error of clap, and returns the exit status: 3 when out of memory, 0 where help or the version was asked
 /// for, else 2; or 4 where nothing can be written. Help and the version stand on standard output, and a failing write
-/// of them is reported.
-pub fn refuse(rt: &HostRuntime, error: &Error) -> u8
+/// of them is reported in the name of the program.
+pub fn refuse(rt: &HostRuntime, program: &str, error: &Error) -> u8
     ensures due { IsStatusDue (kind_of error.now) result }
     ensures within { result ≤ 4 }
 {
@@ -30,7 +31,10 @@ pub fn refuse(rt: &HostRuntime, error: &Error) -> u8
         Ok(()) => 0,
         Err(_) if error.use_stderr() => 4,
         Err(reason) => {
-            let _ = eprintln!(rt; "write fault\nStandard output: {reason}");
+            // A pipe that its reader closed is no fault.
+            if reason.kind() != io::ErrorKind::BrokenPipe {
+                let _ = eprintln!(rt; "write fault\n{program}: standard output: {reason}");
+            }
             4
         }
     }

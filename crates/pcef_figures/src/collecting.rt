@@ -266,11 +266,22 @@ fn take_octets(
     collected.take(alloc, line.number, value.as_ref(), &answer)
 }
 
+/// What is told how far the figures are collected.
+pub trait Watch {
+    /// So many octets more of the lines and the answers are read.
+    fn note(&mut self, count: usize);
+}
+
 /// Collects the figures of a script's lines and its answers: the nth line that isn't blank has the nth answer. There
-/// may be fewer answers than lines. Takes memory for the figures.
+/// may be fewer answers than lines. Takes memory for the figures. `watch` is told of each exchange before it is taken.
 ///
 /// An `Err` is the first fault in the order of the lines, or out of memory.
-pub fn collect(alloc: Global, lines: &[u8], answers: &[u8]) -> Result<Figures, CollectFault>
+pub fn collect<W: Watch>(
+    alloc: Global,
+    lines: &[u8],
+    answers: &[u8],
+    watch: &mut W,
+) -> Result<Figures, CollectFault>
     ensures figures { IfOk result (AreFiguresOf (exchanges lines.now answers.now)) }
     ensures all { IsOk result → length (filled answers.now) ≤ length (filled lines.now) }
     ensures fault { IfErr result (λ fault. Fails fault lines.now answers.now) }
@@ -282,6 +293,7 @@ pub fn collect(alloc: Global, lines: &[u8], answers: &[u8]) -> Result<Figures, C
         let Some(answer) = answers.next() else {
             return Ok(collected.into_figures());
         };
+        watch.note(line.octets.len().saturating_add(answer.octets.len()));
         take_octets(alloc, &mut collected, line, answer)?;
     }
     match answers.next() {

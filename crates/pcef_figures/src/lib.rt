@@ -17,10 +17,10 @@ mod sums;
 mod times;
 mod values;
 
-pub use collecting::{CollectFault, Collected, collect};
+pub use collecting::{CollectFault, Collected, Watch, collect};
 pub use figures::{
     Figures, Grant, Handed, Judged, KeyState, Rates, Refused, Stamp, Usage, Verdict,
 };
 pub use rates::ActiveRules;
 pub use sums::{Count, Sums, octets_by_key, sum_of, sums_by_rule};
-pub use times::{TimesFault, read_times};
+pub use times::{TimesFault, is_take, read_times, stamp_of};

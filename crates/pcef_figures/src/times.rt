@@ -101,8 +101,9 @@ fn around_space(line: &[u8]) -> (&[u8], &[u8])
     (front, rest.split_at(1).1)
 }
 
-/// When the packet of the line of this number was recorded, by a line of times.
-fn stamp_of(line: u64, time: &[u8]) -> Option<Stamp>
+/// When the packet of the `take` line of this number was recorded, by a line of times, or none where that is no such
+/// line: seconds in at most ten digits, a point and nine digits, a space, and a frame's number.
+pub fn stamp_of(line: u64, time: &[u8]) -> Option<Stamp>
     ensures { result ≡ stamp_in line time.now }
 {
     let (time, frame) = around_space(time);
@@ -113,8 +114,8 @@ fn stamp_of(line: u64, time: &[u8]) -> Option<Stamp>
     })
 }
 
-/// Whether a line takes a packet.
-fn is_take(alloc: Global, line: &[u8]) -> Result<bool, AllocError>
+/// Whether a line of a script takes a packet, be it right or not. Takes memory for it. An `Err` is out of memory.
+pub fn is_take(alloc: Global, line: &[u8]) -> Result<bool, AllocError>
     ensures { IfOk result (λ takes. takes ≡ is_take (json_of line.now)) }
 {
     Ok(match value_of(alloc, line)? {

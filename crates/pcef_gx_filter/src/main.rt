@@ -114,7 +114,7 @@ fn status_with<T: Threads + Wait + Drop + Send + Sync + Copy + 'static>(
             let _ = eprintln!(rt; "usage: an option has no value");
             2
         }
-        Err(error) => refuse(&rt, &error),
+        Err(error) => refuse(&rt, "pcef_gx_filter", &error),
     }
 }
 

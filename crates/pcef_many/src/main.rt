@@ -9,6 +9,7 @@ mod end;
 mod keeping;
 mod metrics;
 mod options;
+mod progress;
 mod serving;
 mod totals;
 mod watched;
@@ -189,7 +190,7 @@ fn status_with<T: Threads + Wait + Clock + Drop + Send + Sync + Copy + 'static>(
             let _ = eprintln!(rt; "usage: an option has no value");
             2
         }
-        Err(error) => refuse(&rt, &error),
+        Err(error) => refuse(&rt, "pcef_many", &error),
     }
 }
 

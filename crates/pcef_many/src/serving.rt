@@ -1,6 +1,7 @@
 //! Lines from standard input, and their answers on standard output.
 
 use crate::end::End;
+use crate::progress::watched_input;
 use crate::watched::{Notes, Watched};
 use pcef_built_in::ShapedCatalog;
 use pcef_model::Profile;
@@ -58,7 +59,7 @@ pub(crate) fn serve_lines<'a, T: Wait + Drop>(
     notes: Arc<Mutex<Notes>>,
 ) -> End<'a> {
     let alloc = rt.alloc();
-    let mut reader = rt.stdin();
+    let mut reader = watched_input(rt);
     let watched = Watched::new(waiting, alloc, io::writer(rt), notes);
     let mut writer = match BufWriter::new(alloc, Fused::new(watched)) {
         Ok(writer) => writer,
@@ -157,7 +158,7 @@ fn serve_all<T: Threads + Wait + Drop + Send + Sync + Copy + 'static>(
     let ran = serve_in_threads(
         starting,
         alloc,
-        rt.stdin(),
+        watched_input(rt),
         ways,
         profile,
         keys.lines,

@@ -1,11 +1,14 @@
-//! What stands between a program's buffer and its standard output: `Fused`, a writer that fails for good.
+//! What stands between a program and its streams: `Fused`, a writer that fails for good; `Watched`, a reader whose
+//! progress is shown on a terminal.
 //!
 //! Its contracts say: that a failure is never an interruption, which the kit's buffer would try again without end, and
-//! that after a failure nothing more is written.
+//! that after a failure nothing more is written; that a reader reads the same while it is watched.
 //!
-//! In the order of reading: `fused`.
+//! In the order of reading: `fused`, `progress`.
 #![tactic(auto)]
 
 mod fused;
+mod progress;
 
 pub use fused::Fused;
+pub use progress::{Progress, Watched};

@@ -8,8 +8,8 @@ use Rattle.pcef_script.specs.declared.fault.ScriptFault.{ScriptFault}
 use Rattle.pcef_script.specs.declared.fault.ScriptFault.TheVariants as script
 use Rattle.pcef_script.specs.ScriptLines.{AppendsFront}
 use Rattle.pcef_program.specs.declared.end.End.{End}
-use Rattle.pcef_program.specs.Ends.{end_reason, end_text}
-use Rattle.pcef_program.specs.EndWriting.{AppendsSome, WritesEnd, WritesMore}
+use Rattle.pcef_program.specs.Ends.{end_reason, end_text, line_reason, reason_front}
+use Rattle.pcef_program.specs.EndWriting.{AppendsSome, WritesEnd, WritesMore, WritesReason}
 
 -- bytes that were put, or a front of them
 pub put_some : {T : Type 0} (r : Result T ScriptFault) (a b : Option (List ℕ)) (text : List ℕ) → OnOk r (Appends a b text) → IfErr r (λ e. (e ≡ script.Write) × AppendsFront a b text) → AppendsSome a b
@@ -34,14 +34,26 @@ told_line end a b (front, rest, is, appended) =
     ([], λ none. refl, (front, rest ++ more, ap (λ t. t ++ more) is ∙ append_assoc front rest more, appended))
 
 -- what is wrong with the line that doesn't fit, or a front of it
-pub reason_told : (end : End) (a b : Option (List ℕ)) → AppendsFront a b (end_reason end) → WritesMore end a b
-reason_told end a b (front, rest, is, appended) = ([], (front, rest, append-nil (end_reason end) ∙ is, appended))
+pub reason_told : (end : End) (a b : Option (List ℕ)) → AppendsFront a b (line_reason end) → WritesReason end a b
+reason_told end a b (front, rest, is, appended) = ([], (front, rest, append-nil (line_reason end) ∙ is, appended))
 
 -- and what follows it
-pub reason_then : (end : End) (a b c : Option (List ℕ)) → Appends a b (end_reason end) → AppendsSome b c → WritesMore end a c
+pub reason_then : (end : End) (a b c : Option (List ℕ)) → Appends a b (line_reason end) → AppendsSome b c → WritesReason end a c
 reason_then end a b c told (more, appended) =
-    let whole = end_reason end ++ more in
-    (more, (whole, [], sym (append-nil whole), Appends-trans a b c (end_reason end) more told appended))
+    let whole = line_reason end ++ more in
+    (more, (whole, [], sym (append-nil whole), Appends-trans a b c (line_reason end) more told appended))
+
+-- the program's name before that, or a front of it
+pub name_told : (end : End) (a b : Option (List ℕ)) → AppendsFront a b (reason_front end) → WritesMore end a b
+name_told end a b (front, rest, is, appended) =
+    let more = line_reason end ++ [] in
+    ([], (front, rest ++ more, append_assoc (reason_front end) (line_reason end) [] ∙ ap (λ t. t ++ more) is ∙ append_assoc front rest more, appended))
+
+-- and what follows it
+pub name_then : (end : End) (a b c : Option (List ℕ)) → Appends a b (reason_front end) → WritesReason end b c → WritesMore end a c
+name_then end a b c told (more, (front, rest, is, appended)) =
+    let name = reason_front end in
+    (more, (name ++ front, rest, append_assoc name (line_reason end) more ∙ ap (λ t. name ++ t) is ∙ sym (append_assoc name front rest), Appends-trans a b c name front told appended))
 
 -- the line, and what follows it
 pub told_more : (end : End) (a b c : Option (List ℕ)) → (end_text end ≡ [] → ⊥) → Appends a b (end_text end) → WritesMore end b c → WritesEnd end a c

@@ -51,9 +51,18 @@ end_text (end.Line first text) = string_bytes text
 end_text (end.Run fault) = codes "run fault " ++ (48 + run_fault_number fault) ∷ 10 ∷ []
 
 -- what is wrong with the line that doesn't fit
+abbrev pub line_reason : End → List ℕ
+line_reason (end.Line first text) = string_bytes first.explanation
+line_reason other = []
+
+-- the program's name before that
+abbrev pub reason_front : End → List ℕ
+reason_front (end.Line first text) = codes "pcef: "
+reason_front other = []
+
+-- the line of both
 abbrev pub end_reason : End → List ℕ
-end_reason (end.Line first text) = string_bytes first.explanation
-end_reason other = []
+end_reason e = reason_front e ++ line_reason e
 
 -- a profile that can't be read
 abbrev pub profile_end : ReadProfileFault → End

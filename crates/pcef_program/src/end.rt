@@ -2,7 +2,7 @@
 
 ghost use Rattle.std.specs.Prelude.{◌≡◌, Err, IfOk, string_bytes};
 ghost use Rattle.pcef_program.specs.declared.end.End.TheVariants.{Profile, Run};
-ghost use Rattle.pcef_program.specs.Ends.{IsPlanEnd, end_reason, end_status, end_text, line_text, open_end, pool_end, pooled_end, profile_end, run_end, script_end, unread_end};
+ghost use Rattle.pcef_program.specs.Ends.{IsPlanEnd, end_status, end_text, line_reason, line_text, open_end, pool_end, pooled_end, profile_end, reason_front, run_end, script_end, unread_end};
 
 use pcef_gateway::RunFault;
 use pcef_model::OpenFault;
@@ -14,10 +14,10 @@ use pcef_script::ScriptFault;
 use std::alloc::{AllocError, Global};
 use std::io::ErrorKind;
 
-const USAGE: &str =
+pub(crate) const USAGE: &str =
     "usage: pcef script PROFILE | pcef run PROFILE WORKERS | pcef pool UP DOWN PROFILE...\n";
 
-const USAGE_NOTE: &str = "
+pub(crate) const USAGE_NOTE: &str = "
   script PROFILE       opens a session by the file PROFILE, and answers each line of standard input with a
                        line on standard output, as soon as it can
   run PROFILE WORKERS  reads all commands and packets from standard input, spreads the packets over WORKERS threads,
@@ -26,6 +26,7 @@ const USAGE_NOTE: &str = "
                        reads all lines of standard input, each the number of a session, from 0, a space and a
                        command; opens a session for each of 1 to 64 profiles on a pool of UP and DOWN guaranteed
                        bit/s, answers each command with a line, and prints what the pool has granted
+  --help, --version    prints this text, or the version
 
 Example: pcef script examples/profile.toml < examples/tutorial.jsonl
 Exit status: 0, 1 a profile or a line at fault, 2 usage, 3 want of memory, 4 a read, write or run fault
@@ -34,7 +35,7 @@ Version: 0.1; a build by `rt try` is not proved, one by `rt run` is, with rattle
 ";
 
 const TOO_MUCH_NOTE: &str =
-    "Standard input has more than 1,073,741,824 bytes; the whole lines of a script within are answered.\n";
+    "pcef: standard input has more than 1,073,741,824 bytes; the whole lines of a script within are answered\n";
 
 /// How the program ends.
 #[derive(Drop)]
@@ -95,10 +96,20 @@ impl End {
 
     /// What is wrong with the line that doesn't fit: a line, or nothing of another end.
     pub fn reason(&self) -> &str
-        ensures { result.now ≡ end_reason self.now }
+        ensures { result.now ≡ line_reason self.now }
     {
         match self {
             End::Line(first, _) => first.explanation.as_str(),
+            _ => "",
+        }
+    }
+
+    /// What stands before that: the program's name, or nothing of another end.
+    pub fn reason_front(&self) -> &'static str
+        ensures { result.now ≡ reason_front self.now }
+    {
+        match self {
+            End::Line(_, _) => "pcef: ",
             _ => "",
         }
     }
@@ -108,11 +119,11 @@ impl End {
         match self {
             End::Done | End::LinesAtFault | End::Profile(_) | End::NoProfile | End::Write => "",
             End::Usage => USAGE_NOTE,
-            End::NoMemory => "The lines of a script or of a pool before that are answered.\n",
+            End::NoMemory => "pcef: the lines of a script or of a pool before that are answered\n",
             End::Read =>
-                "Standard input fails; the whole lines of a script before that are answered.\n",
+                "pcef: standard input fails; the whole lines of a script before that are answered\n",
             End::TooMuch => TOO_MUCH_NOTE,
-            End::Line(_, _) => "Nothing was run.\n",
+            End::Line(_, _) => "pcef: nothing was run\n",
             End::Run(fault) => run_note(*fault),
         }
     }
@@ -135,15 +146,15 @@ fn run_text(fault: RunFault) -> &'static str
 
 fn run_note(fault: RunFault) -> &'static str {
     match fault {
-        RunFault::Workers => "There are one to sixteen workers.\n",
-        RunFault::StrangeWorker => "A packet names a worker that does not exist.\n",
-        RunFault::Shared => "The session could not be shared by the workers.\n",
-        RunFault::Ring => "There is no ring to a worker, or one failed.\n",
+        RunFault::Workers => "pcef: there are one to sixteen workers\n",
+        RunFault::StrangeWorker => "pcef: a packet names a worker that does not exist\n",
+        RunFault::Shared => "pcef: the session could not be shared by the workers\n",
+        RunFault::Ring => "pcef: there is no ring to a worker, or one failed\n",
         RunFault::Attach =>
-            "A worker wasn't attached: the session was closed before the first packet.\n",
-        RunFault::Thread => "There is no thread for a worker.\n",
-        RunFault::Gather => "What was handed in does not agree with the journal.\n",
-        RunFault::NoMemory => "There is no memory left.\n",
+            "pcef: a worker wasn't attached: the session was closed before the first packet\n",
+        RunFault::Thread => "pcef: there is no thread for a worker\n",
+        RunFault::Gather => "pcef: what was handed in does not agree with the journal\n",
+        RunFault::NoMemory => "pcef: there is no memory left\n",
     }
 }
 

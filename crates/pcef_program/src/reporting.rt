@@ -1,7 +1,7 @@
 //! What is said of an end on the writer for faults.
 
 ghost use Rattle.std.specs.Prelude.{◌≡◌};
-ghost use Rattle.pcef_program.specs.EndWriting.{AppendsSome, WritesEnd, WritesMore};
+ghost use Rattle.pcef_program.specs.EndWriting.{AppendsSome, WritesEnd, WritesMore, WritesReason};
 
 use crate::end::End;
 use crate::mistake::mistake_line;
@@ -104,6 +104,22 @@ fn put_details<E: Write>(
 }
 
 /// Writes what is wrong with the line that doesn't fit, if one doesn't, and then what else a person needs to know.
+fn put_explanation<E: Write>(
+    alloc: Global,
+    end: &End,
+    words: &[Vec<u8>],
+    profiles: &[io::Result<String>],
+    faults: &mut E,
+)
+    ensures { WritesReason end.now (E.contents faults.old) (E.contents faults.new) }
+{
+    match put_all(faults, end.reason().as_bytes()) {
+        Ok(()) => put_details(alloc, end, words, profiles, faults),
+        Err(_) => {}
+    }
+}
+
+/// Writes the same, with the program's name before what is wrong with a line.
 fn put_reason<E: Write>(
     alloc: Global,
     end: &End,
@@ -113,8 +129,8 @@ fn put_reason<E: Write>(
 )
     ensures { WritesMore end.now (E.contents faults.old) (E.contents faults.new) }
 {
-    match put_all(faults, end.reason().as_bytes()) {
-        Ok(()) => put_details(alloc, end, words, profiles, faults),
+    match put_all(faults, end.reason_front().as_bytes()) {
+        Ok(()) => put_explanation(alloc, end, words, profiles, faults),
         Err(_) => {}
     }
 }

@@ -61,6 +61,11 @@ impl<'a> End<'a> {
         }
     }
 
+    /// Where a file can't be read.
+    pub(crate) fn at_read(file: &'a str, error: io::Error) -> End<'a> {
+        End::of_error(error, End::Read(file, error))
+    }
+
     /// The exit status. Wrong arguments, which clap finds, have 2.
     fn status(&self) -> u8
         ensures { result ≤ 4 }

@@ -4,9 +4,11 @@ ghost use Rattle.std.specs.Prelude.{◌≡◌};
 
 use crate::end::End;
 use crate::options::Options;
-use crate::session::{OneSession, one_session, own_stamps, without_names};
+use crate::session::{OneSession, one_session, own_text};
+use crate::session_times::SessionTimes;
+use crate::source::Collecting;
 use pcef_figures::{CollectFault, Figures, Stamp, TimesFault, collect, read_times};
-use std::alloc::{AllocError, Global};
+use std::alloc::{AllocError, AllocFailed, Global};
 use std::io::{self, Read};
 use std::{fs, str};
 use toml::Value;
@@ -22,20 +24,22 @@ pub(crate) struct Input {
     pub address: Option<String>,
 }
 
-/// What the lines are, behind the name of the session, where they are those of many.
-#[derive(Drop)]
-struct Lines {
-    lines: Vec<u8>,
-    answers: Vec<u8>,
-    address: Option<String>,
-}
-
 impl From<AllocError> for End<'_> {
     ghost use Rattle.pcef_report.specs.declared.end.End.TheVariants.{NoMemory};
 
     ghost from_gives = { λ _ end. end ≡ NoMemory };
 
     fn from(_refused: AllocError) -> Self {
+        End::NoMemory
+    }
+}
+
+impl<T: Drop> From<AllocFailed<T>> for End<'_> {
+    ghost use Rattle.pcef_report.specs.declared.end.End.TheVariants.{NoMemory};
+
+    ghost from_gives = { λ _ end. end ≡ NoMemory };
+
+    fn from(_refused: AllocFailed<T>) -> Self {
         End::NoMemory
     }
 }
@@ -54,7 +58,7 @@ fn octets_in(rt: &HostRuntime, file: &str) -> io::Result<Vec<u8>> {
 fn octets_of<'a>(rt: &HostRuntime, file: &'a str) -> Result<Vec<u8>, End<'a>> {
     match octets_in(rt, file) {
         Ok(octets) => Ok(octets),
-        Err(error) => Err(End::of_error(error, End::Read(file, error))),
+        Err(error) => Err(End::at_read(file, error)),
     }
 }
 
@@ -73,12 +77,15 @@ fn hint_of(lines: &[u8], answers: &[u8]) -> &'static str {
 
 /// Collects the figures from lines and answers.
 fn collect_figures<'a>(
-    alloc: Global,
+    rt: &HostRuntime,
     options: Options<'a>,
     lines: &[u8],
     answers: &[u8],
 ) -> Result<Figures, End<'a>> {
-    match collect(alloc, lines, answers) {
+    let mut watch = Collecting::new(rt, lines.len().saturating_add(answers.len()));
+    let figures = collect(rt.alloc(), lines, answers, &mut watch);
+    watch.end();
+    match figures {
         Ok(figures) => Ok(figures),
         Err(CollectFault::NoMemory) => Err(End::NoMemory),
         Err(fault) => Err(End::Apart(options, fault, hint_of(lines, answers))),
@@ -99,45 +106,20 @@ fn stamps_of<'a>(
     }
 }
 
-/// The lines of the session that is asked for, among those of many.
+/// The lines of the session that is asked for, among those of many, with their answers.
 fn session_in<'a>(
-    alloc: Global,
+    rt: &HostRuntime,
     options: Options<'a>,
     name: &'a str,
-    lines: &[u8],
-    answers: &[u8],
-) -> Result<Lines, End<'a>> {
-    let Some(one) = one_session(alloc, lines, answers, name)? else {
-        return Err(End::NoSession(name, options.lines));
-    };
-    let OneSession {
-        lines,
-        answers,
-        address,
-    } = one;
-    let address = if address.is_empty() {
-        None
-    } else {
-        Some(address)
-    };
-    Ok(Lines {
-        lines,
-        answers,
-        address,
-    })
-}
-
-/// The times of the packets of a session among many.
-fn session_stamps<'a>(
-    alloc: Global,
-    file: &'a str,
-    all: &[u8],
-    own: &[u8],
-    times: &[u8],
-) -> Result<Vec<Stamp>, End<'a>> {
-    let unnamed = without_names(alloc, all)?;
-    let stamps = stamps_of(alloc, file, &unnamed, times)?;
-    Ok(own_stamps(alloc, stamps.as_slice(), own)?)
+    times: &mut SessionTimes<'a>,
+) -> Result<OneSession, End<'a>> {
+    let lines = own_text(rt, options.lines, name, times)?;
+    let mut no_times = SessionTimes::open(rt, None);
+    let answers = own_text(rt, options.answers, name, &mut no_times)?;
+    match one_session(rt.alloc(), &lines, &answers)? {
+        Some(session) => Ok(session),
+        None => Err(End::NoSession(name, options.lines)),
+    }
 }
 
 /// The address that a profile gives.
@@ -175,7 +157,7 @@ fn input_of<'a>(
     lines: &[u8],
     answers: &[u8],
 ) -> Result<Input, End<'a>> {
-    let figures = collect_figures(rt.alloc(), options, lines, answers)?;
+    let figures = collect_figures(rt, options, lines, answers)?;
     let stamps = match options.times {
         Some(file) => Some(stamps_of(rt.alloc(), file, lines, &octets_of(rt, file)?)?),
         None => None,
@@ -192,28 +174,25 @@ fn input_of_session<'a>(
     rt: &HostRuntime,
     options: Options<'a>,
     name: &'a str,
-    all: &[u8],
-    answers: &[u8],
 ) -> Result<Input, End<'a>> {
-    let alloc = rt.alloc();
-    let Lines {
+    let mut times = SessionTimes::open(rt, options.times);
+    let OneSession {
         lines,
         answers,
+        first,
         address,
-    } = session_in(alloc, options, name, all, answers)?;
-    let figures = collect_figures(alloc, options, &lines, &answers)?;
-    let stamps = match options.times {
-        Some(file) => {
-            let times = octets_of(rt, file)?;
-            Some(session_stamps(alloc, file, all, &lines, &times)?)
-        }
-        None => None,
-    };
+    } = session_in(rt, options, name, &mut times)?;
+    let figures = collect_figures(rt, options, &lines, &answers)?;
+    let stamps = times.stamps_from(first)?;
     let profile = profile_address(rt, options)?;
     Ok(Input {
         figures,
         stamps,
-        address: address.or(profile),
+        address: if address.is_empty() {
+            profile
+        } else {
+            Some(address)
+        },
     })
 }
 
@@ -233,10 +212,10 @@ pub(crate) fn read<'a>(rt: &HostRuntime, options: Options<'a>) -> Result<Input, 
     if has_two_inputs(options) {
         return Err(End::TwoInputs);
     }
+    if let Some(name) = options.session {
+        return input_of_session(rt, options, name);
+    }
     let lines = octets_of(rt, options.lines)?;
     let answers = octets_of(rt, options.answers)?;
-    match options.session {
-        Some(name) => input_of_session(rt, options, name, &lines, &answers),
-        None => input_of(rt, options, &lines, &answers),
-    }
+    input_of(rt, options, &lines, &answers)
 }

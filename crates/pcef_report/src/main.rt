@@ -19,7 +19,9 @@ mod rates;
 mod refusals;
 mod rules;
 mod session;
+mod session_times;
 mod sheet;
+mod source;
 mod stamps;
 mod style;
 mod table;
@@ -132,7 +134,7 @@ fn status(rt: &HostRuntime) -> u8
             );
             2
         }
-        Err(error) => refuse(rt, &error),
+        Err(error) => refuse(rt, "pcef_report", &error),
     }
 }
 

@@ -1,18 +1,11 @@
 //! One session among the lines of many.
 
-use pcef_figures::Stamp;
+use crate::end::End;
+use crate::session_times::SessionTimes;
+use crate::source::{FileLines, is_blank};
 use serde_json::Value;
 use std::alloc::{AllocError, Global};
 use std::str;
-
-/// A line of the session, without its name.
-#[derive(Clone, Copy)]
-struct Own<'a> {
-    /// Its number among all lines, from 0.
-    number: usize,
-    /// What stands behind the name and the space.
-    rest: &'a [u8],
-}
 
 /// What stands behind the name of a session and a space, if the line is the session's.
 fn rest_of<'a>(line: &'a [u8], name: &str) -> Option<&'a [u8]> {
@@ -28,38 +21,68 @@ fn rest_of<'a>(line: &'a [u8], name: &str) -> Option<&'a [u8]> {
     }
 }
 
-fn is_blank(line: &[u8]) -> bool {
-    line.iter().all(|octet| *octet == b' ' || *octet == b'\t' || *octet == b'\r')
+/// The lines of a session in a file, each in its place and without the name: all others are empty. The times of its
+/// packets are read beside it. Takes memory for the session's lines, and an octet for each of the others.
+pub(crate) fn own_text<'a>(
+    rt: &HostRuntime,
+    file: &'a str,
+    name: &str,
+    times: &mut SessionTimes<'a>,
+) -> Result<Vec<u8>, End<'a>> {
+    let mut lines = match FileLines::open(rt, file) {
+        Ok(lines) => lines,
+        Err(error) => return Err(End::at_read(file, error)),
+    };
+    let mut text = Vec::new(rt.alloc());
+    for number in 1..u64::MAX {
+        let line = match lines.next() {
+            Ok(Some(line)) => line,
+            Ok(None) => break,
+            Err(error) => return Err(End::at_read(file, error)),
+        };
+        let own = rest_of(line, name);
+        times.take(rt, number, line, own.is_some());
+        if let Some(own) = own {
+            text.extend_from_slice(own)?;
+        }
+        text.push(b'\n')?;
+    }
+    Ok(text)
 }
 
-/// The lines of a session that aren't blank.
-fn own_lines<'a>(alloc: Global, octets: &'a [u8], name: &str) -> Result<Vec<Own<'a>>, AllocError> {
+/// A line of the session.
+#[derive(Clone, Copy)]
+struct Own<'a> {
+    /// Its number among all lines, from 1.
+    number: u64,
+    line: &'a [u8],
+}
+
+/// The lines that aren't blank.
+fn filled<'a>(alloc: Global, text: &'a [u8]) -> Result<Vec<Own<'a>>, AllocError> {
     let mut own = Vec::new(alloc);
-    for (number, line) in octets.split(|octet| *octet == b'\n').enumerate() {
-        match rest_of(line, name) {
-            Some(rest) if !is_blank(rest) => own.push(Own { number, rest })?,
-            _ => {}
+    let mut number = 0u64;
+    for line in text.split(|octet| *octet == b'\n') {
+        number = number.saturating_add(1);
+        if !is_blank(line) {
+            own.push(Own { number, line })?;
         }
     }
     Ok(own)
 }
 
-/// The lines from one of this number on, each without its name and in its place: the others are empty.
-fn text_from(
-    alloc: Global,
-    octets: &[u8],
-    name: &str,
-    first: usize,
-) -> Result<Vec<u8>, AllocError> {
-    let mut text = Vec::new(alloc);
-    for (number, line) in octets.split(|octet| *octet == b'\n').enumerate() {
-        match rest_of(line, name) {
-            Some(rest) if number >= first => text.extend_from_slice(rest)?,
-            _ => {}
+/// The text in which the lines before the one of this number are empty.
+fn text_from(alloc: Global, text: &[u8], first: u64) -> Result<Vec<u8>, AllocError> {
+    let mut kept = Vec::new(alloc);
+    let mut number = 0u64;
+    for line in text.split(|octet| *octet == b'\n') {
+        number = number.saturating_add(1);
+        if number >= first {
+            kept.extend_from_slice(line)?;
         }
-        text.push(b'\n')?;
+        kept.push(b'\n')?;
     }
-    Ok(text)
+    Ok(kept)
 }
 
 /// The address that an `open` line gives, empty where it gives none, or no text where the line is none.
@@ -86,6 +109,8 @@ pub(crate) struct OneSession {
     pub lines: Vec<u8>,
     /// Their answers.
     pub answers: Vec<u8>,
+    /// The number of its `open` line, from 1.
+    pub first: u64,
     /// The address that its `open` gave, or an empty text.
     pub address: String,
 }
@@ -96,8 +121,8 @@ const DONE: &[u8] = b"{\"ok\":true}";
 /// Where the last session of a name begins: the numbers of its `open` line and of the answer, and its address.
 #[derive(Drop)]
 struct Beginning {
-    line: usize,
-    answer: usize,
+    line: u64,
+    answer: u64,
     address: String,
 }
 
@@ -108,11 +133,11 @@ fn last_beginning(
     answers: &[Own<'_>],
 ) -> Result<Option<Beginning>, AllocError> {
     let mut found = None;
-    for (line, answer) in lines.iter().zip(answers) {
-        if answer.rest.trim_ascii() == DONE {
-            if let Some(address) = opened(alloc, line.rest)? {
+    for (own, answer) in lines.iter().zip(answers) {
+        if answer.line.trim_ascii() == DONE {
+            if let Some(address) = opened(alloc, own.line)? {
                 found = Some(Beginning {
-                    line: line.number,
+                    line: own.number,
                     answer: answer.number,
                     address,
                 });
@@ -122,15 +147,14 @@ fn last_beginning(
     Ok(found)
 }
 
-/// The last session of a name, if one was opened. Takes memory for its lines and answers.
+/// The last session of a name, if one was opened, by the lines and the answers under this name. Takes memory for them.
 pub(crate) fn one_session(
     alloc: Global,
     lines: &[u8],
     answers: &[u8],
-    name: &str,
 ) -> Result<Option<OneSession>, AllocError> {
-    let own = own_lines(alloc, lines, name)?;
-    let told = own_lines(alloc, answers, name)?;
+    let own = filled(alloc, lines)?;
+    let told = filled(alloc, answers)?;
     let Some(begin) = last_beginning(alloc, own.as_slice(), told.as_slice())? else {
         return Ok(None);
     };
@@ -140,42 +164,9 @@ pub(crate) fn one_session(
         address,
     } = begin;
     Ok(Some(OneSession {
-        lines: text_from(alloc, lines, name, line)?,
-        answers: text_from(alloc, answers, name, answer)?,
+        lines: text_from(alloc, lines, line)?,
+        answers: text_from(alloc, answers, answer)?,
+        first: line,
         address,
     }))
-}
-
-/// The lines of all sessions without their names, each in its place. Takes memory for them.
-pub(crate) fn without_names(alloc: Global, octets: &[u8]) -> Result<Vec<u8>, AllocError> {
-    let mut text = Vec::new(alloc);
-    for line in octets.split(|octet| *octet == b'\n') {
-        if let Some(place) = line.iter().position(|octet| *octet == b' ') {
-            text.extend_from_slice(line.split_at(place).1)?;
-        }
-        text.push(b'\n')?;
-    }
-    Ok(text)
-}
-
-/// The times of a session's packets, among those of all. `lines` are the session's, each in its place.
-pub(crate) fn own_stamps(
-    alloc: Global,
-    stamps: &[Stamp],
-    lines: &[u8],
-) -> Result<Vec<Stamp>, AllocError> {
-    let mut own = Vec::new(alloc);
-    let mut left = stamps.iter();
-    let mut next = left.next();
-    for (number, line) in lines.split(|octet| *octet == b'\n').enumerate() {
-        if let Some(stamp) = next {
-            if stamp.line == (number as u64).saturating_add(1) {
-                if !is_blank(line) {
-                    own.push(*stamp)?;
-                }
-                next = left.next();
-            }
-        }
-    }
-    Ok(own)
 }

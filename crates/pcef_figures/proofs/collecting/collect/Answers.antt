@@ -10,7 +10,7 @@ use Rattle.pcef_figures.proofs.Exchanges.{exchanges_next, rules_more, tells_more
 use Rattle.pcef_figures.proofs.collecting.collect.Goals as goal
 
 pub loop-line-init : goal.loop-line-init
-loop-line-init c =
+loop-line-init g c =
     let blank = c.new-collected.ensures.figures in
     let script = c.of-script.ensures in
     let answers = c.of-answers.ensures in
@@ -37,7 +37,7 @@ loop-line-init c =
     }
 
 pub loop-line-preserved : goal.loop-line-preserved
-loop-line-preserved c =
+loop-line-preserved g c =
     let i = c.loop-line.invariant in
     let line = c.in-Some.line in
     let answer = c.in-Some-next.answer in

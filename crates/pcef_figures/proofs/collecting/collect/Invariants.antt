@@ -8,7 +8,7 @@ use Rattle.pcef_figures.proofs.collecting.collect.Given as goal
 
 -- the figures are those of the lines so far
 abbrev pub invariant-loop-line : goal.invariant-loop-line
-invariant-loop-line l = record {
+invariant-loop-line g l = record {
   told : List Exchange;
   whole : exchanges l.fn.lines l.fn.answers ≡ told ++ map exchange_of (zip (left l.script) (left l.answers));
   tells : AreFiguresOf told l.collected.figures;
@@ -21,4 +21,4 @@ invariant-loop-line l = record {
 }
 
 abbrev pub decreases-loop-line : goal.decreases-loop-line
-decreases-loop-line l = size l.script
+decreases-loop-line g l = size l.script
