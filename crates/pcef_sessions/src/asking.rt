@@ -30,9 +30,11 @@ pub enum Asking {
     Open(Option<Addr>),
     /// To renew the session.
     Renew,
+    /// To show the lines that make a new session like this one.
+    Lines,
     /// To end the session.
     End,
-    /// One of these three, in a line at fault.
+    /// One of these four, in a line at fault.
     Fault(AskingFault),
     /// None of them: the line is one of a script.
     Script,
@@ -127,6 +129,7 @@ fn asked_at(line: &Value) -> Asking
     match line.get("do").and_then(Value::as_str) {
         Some("open") => opening_of(line),
         Some("renew") => alone_of(line, Asking::Renew),
+        Some("lines") => alone_of(line, Asking::Lines),
         Some("end") => alone_of(line, Asking::End),
         _ => Asking::Script,
     }

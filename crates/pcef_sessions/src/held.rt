@@ -12,6 +12,7 @@ use pcef_built_in::ShapedCatalog;
 use pcef_index::IndexShelf;
 use pcef_line::LineReader;
 use pcef_renewal_answer::answer_renew;
+use pcef_renewal_lines::answer_lines;
 use pcef_script::{LineAnswer, answer_alone};
 use pcef_world::WorldState;
 use std::alloc::{AllocError, Global};
@@ -97,6 +98,14 @@ impl Held {
         world.forget();
         Ok(LineAnswer {
             text: answer_renew(alloc, world, &*self.catalog).text?,
+            is_fault: false,
+        })
+    }
+
+    /// Shows the lines that make a new session like this one.
+    pub(crate) fn lines(&self, alloc: Global) -> Result<LineAnswer, AllocError> {
+        Ok(LineAnswer {
+            text: answer_lines(alloc, self.world.session())?,
             is_fault: false,
         })
     }

@@ -208,6 +208,14 @@ impl Sessions {
         }
     }
 
+    /// The answer to a line that asks for the session's lines.
+    fn asked_lines(&self, name: &SessionName) -> Result<LineAnswer, AllocError> {
+        match self.table.get(name) {
+            None => says(self.alloc, "{\"name\":\"NoSession\",\"refused\":0}", false),
+            Some(held) => held.lines(self.alloc),
+        }
+    }
+
     /// The answer to a line that ends a session. It comes first, so that nothing is done where memory is lacking.
     fn asked_end(&mut self, name: &SessionName) -> Result<LineAnswer, AllocError>
         ensures answer { IfOk result (λ a. Asks self.old name.now asking.End a self.new) }
@@ -231,6 +239,7 @@ impl Sessions {
         match asking {
             Asking::Open(ue) => self.answer_open(name, ue),
             Asking::Renew => self.asked_renew(name),
+            Asking::Lines => self.asked_lines(name),
             Asking::End => self.asked_end(name),
             Asking::Fault(fault) => says_fault(self.alloc, fault),
             Asking::Script => says(self.alloc, "{\"name\":\"NoSession\",\"refused\":0}", false),

@@ -1,0 +1,73 @@
+//! Whether a line reads as its command.
+
+use pcef_line::{Line, LineFault, read_line};
+use pcef_model::{Command, Level, Step, TriggerSet};
+use pcef_rule::{KeyName, Rule, RuleName};
+use std::alloc::{AllocError, Global};
+
+fn is_install(read: &Command, rule: &Rule) -> bool {
+    match read {
+        Command::Install(other) => other.is_equal(rule),
+        _ => false,
+    }
+}
+
+fn is_activate(read: &Command, name: &RuleName) -> bool {
+    match read {
+        Command::Activate(other) => *other == *name,
+        _ => false,
+    }
+}
+
+fn is_monitor(read: &Command, key: &KeyName, grant: u64, level: Level) -> bool {
+    match read {
+        Command::Monitor {
+            key: other,
+            grant: octets,
+            level: of,
+        } => *other == *key && *octets == grant && *of == level,
+        _ => false,
+    }
+}
+
+fn is_triggers(read: &Command, set: TriggerSet) -> bool {
+    match read {
+        Command::Triggers(other) => *other == set,
+        _ => false,
+    }
+}
+
+fn is_close(read: &Command) -> bool {
+    match read {
+        Command::Close => true,
+        _ => false,
+    }
+}
+
+/// Whether what was read is this command, which a renewal may have.
+fn is_command(read: &Command, command: &Command) -> bool {
+    match command {
+        Command::Install(rule) => is_install(read, rule),
+        Command::Activate(name) => is_activate(read, name),
+        Command::Monitor { key, grant, level } => is_monitor(read, key, *grant, *level),
+        Command::Triggers(set) => is_triggers(read, *set),
+        Command::Close => is_close(read),
+        _ => false,
+    }
+}
+
+fn is_line_of(line: &Line, command: &Command) -> bool {
+    match line {
+        Line::Step(Step::Command(read)) => is_command(read, command),
+        _ => false,
+    }
+}
+
+/// Whether a text reads as this command. Takes memory for the line.
+pub(crate) fn reads_as(alloc: Global, text: &str, command: &Command) -> Result<bool, AllocError> {
+    match read_line(alloc, text) {
+        Ok(line) => Ok(is_line_of(&line, command)),
+        Err(LineFault::NoMemory) => Err(AllocError),
+        Err(_) => Ok(false),
+    }
+}
