@@ -1,12 +1,14 @@
 //! Addresses in text.
 
-ghost use Rattle.std.specs.Prelude.{◌≡◌, IfOk, string_bytes};
-ghost use Rattle.pcef_renewal_lines.specs.Filters.{address_text};
+ghost use Rattle.std.specs.Prelude.{◌≡◌, ◌<◌, ◌/◌, ◌%◌, ◌^◌, IfOk, string_bytes};
+ghost use Rattle.pcef_renewal_lines.specs.Addresses.{address_text, colon_text, dotted_text};
 
 use pcef_packet::Addr;
 use std::alloc::{AllocError, Global};
 
-fn dotted_text(alloc: Global, number: u32) -> Result<String, AllocError> {
+fn dotted_text(alloc: Global, number: u32) -> Result<String, AllocError>
+    ensures { IfOk result (λ text. string_bytes text ≡ dotted_text number) }
+{
     let a = number / 16_777_216;
     let b = number / 65_536 % 256;
     let c = number / 256 % 256;
@@ -15,12 +17,18 @@ fn dotted_text(alloc: Global, number: u32) -> Result<String, AllocError> {
 }
 
 /// The group of a number that stands so many bits above its lowest one.
-fn group(number: u128, above: u8) -> u16 {
+fn group(number: u128, above: u8) -> u16
+    requires { above < 128 }
+    ensures { result ≡ number / 2 ^ above % 65536 }
+{
     (number >> above & 0xFFFF) as u16
 }
 
 /// Eight groups, none of them left out.
-fn colon_text(alloc: Global, number: u128) -> Result<String, AllocError> {
+#[tactic(auto, unfolding(crate::specs::Addresses::group_text))]
+fn colon_text(alloc: Global, number: u128) -> Result<String, AllocError>
+    ensures { IfOk result (λ text. string_bytes text ≡ colon_text number) }
+{
     let a = group(number, 112);
     let b = group(number, 96);
     let c = group(number, 80);

@@ -1,6 +1,8 @@
 //! Commands as lines.
 
-ghost use Rattle.std.specs.Prelude.{◌≡◌, IfOk, string_bytes};
+ghost use Rattle.std.specs.Prelude.{◌≡◌, ◌++◌, IfOk, OnOk, map, string_bytes};
+ghost use Rattle.pcef_model.specs.declared.command.Command.TheVariants as of;
+ghost use Rattle.pcef_renewal_lines.specs.Commands.{command_text, event_words, level_word, word_if};
 
 use crate::rule::{quoted, rule_text};
 use pcef_line::event_text;
@@ -8,29 +10,40 @@ use pcef_model::{AccessKind, Command, Level, TriggerSet};
 use pcef_rule::{KeyName, Rule, RuleName};
 use std::alloc::{AllocError, Global};
 
-fn install_line(alloc: Global, rule: &Rule) -> Result<String, AllocError> {
+#[tactic(auto, unfolding(crate::specs::Commands::command_text))]
+fn install_line(alloc: Global, rule: &Rule) -> Result<String, AllocError>
+    ensures { IfOk result (λ text. string_bytes text ≡ command_text (of.Install rule.now)) }
+{
     let rule = rule_text(alloc, rule)?;
     format!(in alloc; "{{\"do\":\"install\",\"rule\":{rule}}}")
 }
 
-fn activate_line(alloc: Global, name: &RuleName) -> Result<String, AllocError> {
+#[tactic(auto, unfolding(crate::specs::Commands::command_text))]
+fn activate_line(alloc: Global, name: &RuleName) -> Result<String, AllocError>
+    ensures { IfOk result (λ text. string_bytes text ≡ command_text (of.Activate name.now)) }
+{
     let name = quoted(alloc, name.as_str())?;
     format!(in alloc; "{{\"do\":\"activate\",\"name\":{name}}}")
 }
 
-fn level_word(level: Level) -> &'static str {
+fn level_word(level: Level) -> &'static str
+    ensures { result.now ≡ level_word level }
+{
     match level {
         Level::Rule => "rule",
         Level::Session => "session",
     }
 }
 
+#[tactic(auto, unfolding(crate::specs::Commands::command_text))]
 fn monitor_line(
     alloc: Global,
     key: &KeyName,
     grant: u64,
     level: Level,
-) -> Result<String, AllocError> {
+) -> Result<String, AllocError>
+    ensures { IfOk result (λ text. string_bytes text ≡ command_text (of.Monitor key.now grant level)) }
+{
     let key = quoted(alloc, key.as_str())?;
     let level = level_word(level);
     format!(in alloc; "{{\"do\":\"monitor\",\"key\":{key},\"grant\":{grant},\"level\":\"{level}\"}}")
@@ -42,14 +55,20 @@ fn push_event(
     events: &mut Vec<String>,
     is_subscribed: bool,
     word: &str,
-) -> Result<(), AllocError> {
+) -> Result<(), AllocError>
+    ensures { OnOk result (map string_bytes events.new.items
+        ≡ map string_bytes events.old.items ++ word_if is_subscribed word.now) }
+{
     if is_subscribed {
         events.push(format!(in alloc; "\"{word}\"")?)?;
     }
     Ok(())
 }
 
-fn triggers_line(alloc: Global, set: TriggerSet) -> Result<String, AllocError> {
+/// The words of the events that are subscribed.
+fn event_words(alloc: Global, set: TriggerSet) -> Result<Vec<String>, AllocError>
+    ensures { IfOk result (λ events. map string_bytes events.items ≡ event_words set) }
+{
     let mut events = Vec::new(alloc);
     push_event(alloc, &mut events, set.usage_report, "USAGE_REPORT")?;
     push_event(alloc, &mut events, set.rat_change, event_text(AccessKind::RatChange))?;
@@ -66,12 +85,23 @@ fn triggers_line(alloc: Global, set: TriggerSet) -> Result<String, AllocError> {
         set.ue_time_zone_change,
         event_text(AccessKind::UeTimeZoneChange),
     )?;
+    Ok(events)
+}
+
+#[tactic(auto, unfolding(crate::specs::Commands::command_text))]
+fn triggers_line(alloc: Global, set: TriggerSet) -> Result<String, AllocError>
+    ensures { IfOk result (λ text. string_bytes text ≡ command_text (of.Triggers set)) }
+{
+    let events = event_words(alloc, set)?;
     let events = events.join(alloc, ",")?;
     format!(in alloc; "{{\"do\":\"triggers\",\"events\":[{events}]}}")
 }
 
 /// The line of a command, where a renewal may have it, and else nothing.
-pub(crate) fn command_text(alloc: Global, command: &Command) -> Result<String, AllocError> {
+#[tactic(auto, unfolding(crate::specs::Commands::command_text))]
+pub(crate) fn command_text(alloc: Global, command: &Command) -> Result<String, AllocError>
+    ensures { IfOk result (λ text. string_bytes text ≡ command_text command.now) }
+{
     match command {
         Command::Install(rule) => install_line(alloc, rule),
         Command::Activate(name) => activate_line(alloc, name),

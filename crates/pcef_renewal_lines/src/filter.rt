@@ -1,12 +1,15 @@
 //! Filters in lines.
 
-ghost use Rattle.std.specs.Prelude.{◌≡◌, IfOk, string_bytes};
+ghost use Rattle.std.specs.Prelude.{◌≡◌, IfOk, map, string_bytes};
+ghost use Rattle.pcef_renewal_lines.specs.Filters.{direction_word, endpoint_text, filter_object, filter_text, filters_text, flow_part, place_text, ports_text, proto_text, range_text};
 
 use crate::address::address_text;
 use pcef_filter::{Direction, Endpoint, Filter, Flow, Place, PortRange};
 use std::alloc::{AllocError, Global};
 
-fn range_text(alloc: Global, range: PortRange) -> Result<String, AllocError> {
+fn range_text(alloc: Global, range: PortRange) -> Result<String, AllocError>
+    ensures { IfOk result (λ text. string_bytes text ≡ range_text range) }
+{
     let PortRange { first, last } = range;
     if first == last {
         return format!(in alloc; "{first}");
@@ -14,20 +17,30 @@ fn range_text(alloc: Global, range: PortRange) -> Result<String, AllocError> {
     format!(in alloc; "{first}-{last}")
 }
 
+fn range_texts(alloc: Global, ranges: &[PortRange]) -> Result<Vec<String>, AllocError>
+    ensures { IfOk result (λ texts. map string_bytes texts.items ≡ map range_text ranges.now) }
+{
+    let mut texts = Vec::new(alloc);
+    for range in ranges {
+        texts.push(range_text(alloc, *range)?)?;
+    }
+    Ok(texts)
+}
+
 /// The ports behind a place, if there are any.
-fn ports_text(alloc: Global, ports: &[PortRange]) -> Result<String, AllocError> {
+fn ports_text(alloc: Global, ports: &[PortRange]) -> Result<String, AllocError>
+    ensures { IfOk result (λ text. string_bytes text ≡ ports_text ports.now) }
+{
     if ports.is_empty() {
         return Ok(String::new(alloc));
     }
-    let mut texts = Vec::new(alloc);
-    for range in ports {
-        texts.push(range_text(alloc, *range)?)?;
-    }
-    let list = texts.join(alloc, ",")?;
+    let list = range_texts(alloc, ports)?.join(alloc, ",")?;
     format!(in alloc; " {list}")
 }
 
-fn place_text(alloc: Global, place: Place) -> Result<String, AllocError> {
+fn place_text(alloc: Global, place: Place) -> Result<String, AllocError>
+    ensures { IfOk result (λ text. string_bytes text ≡ place_text place) }
+{
     match place {
         Place::Any => String::from_str(alloc, "any"),
         Place::Assigned => String::from_str(alloc, "assigned"),
@@ -39,20 +52,26 @@ fn place_text(alloc: Global, place: Place) -> Result<String, AllocError> {
     }
 }
 
-fn endpoint_text(alloc: Global, endpoint: &Endpoint) -> Result<String, AllocError> {
+fn endpoint_text(alloc: Global, endpoint: &Endpoint) -> Result<String, AllocError>
+    ensures { IfOk result (λ text. string_bytes text ≡ endpoint_text endpoint.now) }
+{
     let place = place_text(alloc, endpoint.place)?;
     let ports = ports_text(alloc, &endpoint.ports)?;
     format!(in alloc; "{place}{ports}")
 }
 
-fn proto_text(alloc: Global, proto: Option<u8>) -> Result<String, AllocError> {
+fn proto_text(alloc: Global, proto: Option<u8>) -> Result<String, AllocError>
+    ensures { IfOk result (λ text. string_bytes text ≡ proto_text proto) }
+{
     match proto {
         None => String::from_str(alloc, "ip"),
         Some(number) => format!(in alloc; "{number}"),
     }
 }
 
-fn direction_word(direction: Direction) -> &'static str {
+fn direction_word(direction: Direction) -> &'static str
+    ensures { result.now ≡ direction_word direction }
+{
     match direction {
         Direction::In => "in",
         Direction::Out => "out",
@@ -60,7 +79,9 @@ fn direction_word(direction: Direction) -> &'static str {
 }
 
 /// The text of a filter, without its flow word.
-fn filter_text(alloc: Global, filter: &Filter) -> Result<String, AllocError> {
+fn filter_text(alloc: Global, filter: &Filter) -> Result<String, AllocError>
+    ensures { IfOk result (λ text. string_bytes text ≡ filter_text filter.now) }
+{
     let direction = direction_word(filter.direction);
     let proto = proto_text(alloc, filter.proto)?;
     let source = endpoint_text(alloc, &filter.source)?;
@@ -69,7 +90,9 @@ fn filter_text(alloc: Global, filter: &Filter) -> Result<String, AllocError> {
 }
 
 /// The flow word behind a filter's text, if it has one.
-fn flow_part(flow: Option<Flow>) -> &'static str {
+fn flow_part(flow: Option<Flow>) -> &'static str
+    ensures { result.now ≡ flow_part flow }
+{
     match flow {
         None => "",
         Some(Flow::Downlink) => ",\"flow\":\"downlink\"",
@@ -78,17 +101,28 @@ fn flow_part(flow: Option<Flow>) -> &'static str {
     }
 }
 
-fn filter_object(alloc: Global, filter: &Filter) -> Result<String, AllocError> {
+#[tactic(auto, unfolding(crate::specs::Filters::filter_object))]
+fn filter_object(alloc: Global, filter: &Filter) -> Result<String, AllocError>
+    ensures { IfOk result (λ text. string_bytes text ≡ filter_object filter.now) }
+{
     let text = filter_text(alloc, filter)?;
     let flow = flow_part(filter.flow);
     format!(in alloc; "{{\"text\":\"{text}\"{flow}}}")
 }
 
-/// The filters of a rule, with commas between them.
-pub(crate) fn filters_text(alloc: Global, filters: &[Filter]) -> Result<String, AllocError> {
+fn filter_objects(alloc: Global, filters: &[Filter]) -> Result<Vec<String>, AllocError>
+    ensures { IfOk result (λ texts. map string_bytes texts.items ≡ map filter_object filters.now) }
+{
     let mut texts = Vec::new(alloc);
     for filter in filters {
         texts.push(filter_object(alloc, filter)?)?;
     }
-    texts.join(alloc, ",")
+    Ok(texts)
+}
+
+/// The filters of a rule, with commas between them.
+pub(crate) fn filters_text(alloc: Global, filters: &[Filter]) -> Result<String, AllocError>
+    ensures { IfOk result (λ text. string_bytes text ≡ filters_text filters.now) }
+{
+    filter_objects(alloc, filters)?.join(alloc, ",")
 }

@@ -1,25 +1,36 @@
 //! Whether a line reads as its command.
 
+ghost use Rattle.std.specs.Prelude.{◌≡◌, ◌↔◌, IfOk, IsTrue, true};
+ghost use Rattle.pcef_line.specs.LineOf.{of_command};
+ghost use Rattle.pcef_model.specs.declared.command.Command.TheVariants as of;
+ghost use Rattle.pcef_renewal_lines.specs.Commands.{ReadsAs, has_line};
+
 use pcef_line::{Line, LineFault, read_line};
 use pcef_model::{Command, Level, Step, TriggerSet};
 use pcef_rule::{KeyName, Rule, RuleName};
 use std::alloc::{AllocError, Global};
 
-fn is_install(read: &Command, rule: &Rule) -> bool {
+fn is_install(read: &Command, rule: &Rule) -> bool
+    ensures { IsTrue result ↔ (read.now ≡ of.Install rule.now) }
+{
     match read {
         Command::Install(other) => other.is_equal(rule),
         _ => false,
     }
 }
 
-fn is_activate(read: &Command, name: &RuleName) -> bool {
+fn is_activate(read: &Command, name: &RuleName) -> bool
+    ensures { IsTrue result ↔ (read.now ≡ of.Activate name.now) }
+{
     match read {
         Command::Activate(other) => *other == *name,
         _ => false,
     }
 }
 
-fn is_monitor(read: &Command, key: &KeyName, grant: u64, level: Level) -> bool {
+fn is_monitor(read: &Command, key: &KeyName, grant: u64, level: Level) -> bool
+    ensures { IsTrue result ↔ (read.now ≡ of.Monitor key.now grant level) }
+{
     match read {
         Command::Monitor {
             key: other,
@@ -30,14 +41,18 @@ fn is_monitor(read: &Command, key: &KeyName, grant: u64, level: Level) -> bool {
     }
 }
 
-fn is_triggers(read: &Command, set: TriggerSet) -> bool {
+fn is_triggers(read: &Command, set: TriggerSet) -> bool
+    ensures { IsTrue result ↔ (read.now ≡ of.Triggers set) }
+{
     match read {
         Command::Triggers(other) => *other == set,
         _ => false,
     }
 }
 
-fn is_close(read: &Command) -> bool {
+fn is_close(read: &Command) -> bool
+    ensures { IsTrue result ↔ (read.now ≡ of.Close) }
+{
     match read {
         Command::Close => true,
         _ => false,
@@ -45,7 +60,10 @@ fn is_close(read: &Command) -> bool {
 }
 
 /// Whether what was read is this command, which a renewal may have.
-fn is_command(read: &Command, command: &Command) -> bool {
+fn is_command(read: &Command, command: &Command) -> bool
+    ensures { IsTrue result
+        ↔ ((has_line command.now ≡ true) × (read.now ≡ command.now)) }
+{
     match command {
         Command::Install(rule) => is_install(read, rule),
         Command::Activate(name) => is_activate(read, name),
@@ -56,7 +74,10 @@ fn is_command(read: &Command, command: &Command) -> bool {
     }
 }
 
-fn is_line_of(line: &Line, command: &Command) -> bool {
+fn is_line_of(line: &Line, command: &Command) -> bool
+    ensures { IsTrue result
+        ↔ ((has_line command.now ≡ true) × (line.now ≡ of_command command.now)) }
+{
     match line {
         Line::Step(Step::Command(read)) => is_command(read, command),
         _ => false,
@@ -64,7 +85,9 @@ fn is_line_of(line: &Line, command: &Command) -> bool {
 }
 
 /// Whether a text reads as this command. Takes memory for the line.
-pub(crate) fn reads_as(alloc: Global, text: &str, command: &Command) -> Result<bool, AllocError> {
+pub(crate) fn reads_as(alloc: Global, text: &str, command: &Command) -> Result<bool, AllocError>
+    ensures { IfOk result (λ b. IsTrue b ↔ ReadsAs text.now command.now) }
+{
     match read_line(alloc, text) {
         Ok(line) => Ok(is_line_of(&line, command)),
         Err(LineFault::NoMemory) => Err(AllocError),

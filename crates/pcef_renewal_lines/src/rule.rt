@@ -1,6 +1,8 @@
 //! Rules in lines.
 
 ghost use Rattle.std.specs.Prelude.{◌≡◌, IfOk, string_bytes};
+ghost use Rattle.json.specs.Print.{quoted};
+ghost use Rattle.pcef_renewal_lines.specs.Rules.{arp_text, gate_word, key_part, rates_part, rule_text};
 
 use crate::filter::filters_text;
 use pcef_rule::{Arp, Gate, KeyName, Rates, Rule};
@@ -8,12 +10,16 @@ use serde_json::Value;
 use std::alloc::{AllocError, Global};
 
 /// A name as a JSON text.
-pub(crate) fn quoted(alloc: Global, name: &str) -> Result<String, AllocError> {
+pub(crate) fn quoted(alloc: Global, name: &str) -> Result<String, AllocError>
+    ensures { IfOk result (λ text. string_bytes text ≡ quoted name.now) }
+{
     let name = String::from_str(alloc, name)?;
     Value::String(name).to_string(alloc)
 }
 
-fn arp_text(alloc: Global, arp: Arp) -> Result<String, AllocError> {
+fn arp_text(alloc: Global, arp: Arp) -> Result<String, AllocError>
+    ensures { IfOk result (λ text. string_bytes text ≡ arp_text arp) }
+{
     let level = arp.level();
     let capability = arp.capability();
     let vulnerability = arp.vulnerability();
@@ -21,14 +27,18 @@ fn arp_text(alloc: Global, arp: Arp) -> Result<String, AllocError> {
 }
 
 /// The guaranteed rates of a rule, if it has any.
-fn rates_part(alloc: Global, rates: Option<Rates>) -> Result<String, AllocError> {
+fn rates_part(alloc: Global, rates: Option<Rates>) -> Result<String, AllocError>
+    ensures { IfOk result (λ text. string_bytes text ≡ rates_part rates) }
+{
     match rates {
         None => Ok(String::new(alloc)),
         Some(Rates { up, down }) => format!(in alloc; ",\"gbr\":{{\"up\":{up},\"down\":{down}}}"),
     }
 }
 
-fn gate_word(gate: Gate) -> &'static str {
+fn gate_word(gate: Gate) -> &'static str
+    ensures { result.now ≡ gate_word gate }
+{
     match gate {
         Gate::EnabledUplink => "ENABLED-UPLINK",
         Gate::EnabledDownlink => "ENABLED-DOWNLINK",
@@ -38,7 +48,9 @@ fn gate_word(gate: Gate) -> &'static str {
 }
 
 /// The monitoring key of a rule, if it has one.
-fn key_part(alloc: Global, key: &Option<KeyName>) -> Result<String, AllocError> {
+fn key_part(alloc: Global, key: &Option<KeyName>) -> Result<String, AllocError>
+    ensures { IfOk result (λ text. string_bytes text ≡ key_part key.now) }
+{
     match key {
         None => Ok(String::new(alloc)),
         Some(key) => {
@@ -49,7 +61,10 @@ fn key_part(alloc: Global, key: &Option<KeyName>) -> Result<String, AllocError> 
 }
 
 /// A rule as a JSON object.
-pub(crate) fn rule_text(alloc: Global, rule: &Rule) -> Result<String, AllocError> {
+#[tactic(auto, unfolding(crate::specs::Rules::rule_text))]
+pub(crate) fn rule_text(alloc: Global, rule: &Rule) -> Result<String, AllocError>
+    ensures { IfOk result (λ text. string_bytes text ≡ rule_text rule.now) }
+{
     let properties = rule.properties();
     let name = quoted(alloc, properties.name.as_str())?;
     let precedence = properties.precedence;

@@ -1,0 +1,2 @@
+-- What only private clauses speak of: a reader of the public ones may pass over it.
+pub mod Written
