@@ -1,0 +1,4 @@
+pub mod Adding
+pub mod Joined
+pub mod Ports
+pub mod Read

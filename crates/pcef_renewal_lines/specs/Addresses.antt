@@ -10,14 +10,15 @@ dotted_text n =
     decimal (n / 16777216) ++ (codes "." ++ (decimal (n / 65536 % 256) ++ (codes "." ++ (decimal (n / 256 % 256) ++ (codes "." ++ decimal (n % 256))))))
 
 -- the group above so many bits, in hexadecimal digits
-unfoldable pub group_text : ℕ → ℕ → List ℕ
+abbrev pub group_text : ℕ → ℕ → List ℕ
 group_text above n = digits 16 false (n / 2 ^ above % 65536)
+
+abbrev pub groups_text : ℕ → List ℕ
+groups_text half = group_text 48 half ++ (codes ":" ++ (group_text 32 half ++ (codes ":" ++ (group_text 16 half ++ (codes ":" ++ group_text 0 half)))))
 
 -- eight groups with colons between them
 abbrev pub colon_text : ℕ → List ℕ
-colon_text n =
-    group_text 112 n ++ (codes ":" ++ (group_text 96 n ++ (codes ":" ++ (group_text 80 n ++ (codes ":" ++ (group_text 64 n ++ (codes ":"
-    ++ (group_text 48 n ++ (codes ":" ++ (group_text 32 n ++ (codes ":" ++ (group_text 16 n ++ (codes ":" ++ group_text 0 n)))))))))))))
+colon_text n = groups_text (n / 18446744073709551616) ++ (codes ":" ++ groups_text (n % 18446744073709551616))
 
 abbrev pub address_text : Addr → List ℕ
 address_text (V4 n) = dotted_text n

@@ -27,8 +27,8 @@ event_words set =
     ++ word_if set.user_location_change (event_text UserLocationChange)) ++ word_if set.ue_time_zone_change (event_text UeTimeZoneChange)
 
 -- texts with commas between them
-abbrev pub listed : List (List ℕ) → List ℕ
-listed texts = join_by (λ text. text) (codes ",") texts
+abbrev pub with_commas : List (List ℕ) → List ℕ
+with_commas texts = join_by (λ text. text) (codes ",") texts
 
 -- a renewal has these commands and no other
 abbrev pub has_line : Command → Bool
@@ -39,19 +39,19 @@ has_line (Triggers set) = true
 has_line Close = true
 has_line other = false
 
-unfoldable pub command_text : Command → List ℕ
-command_text (Install rule) = codes "{\"do\":\"install\",\"rule\":" ++ (rule_text rule ++ codes "}")
-command_text (Activate name) = codes "{\"do\":\"activate\",\"name\":" ++ (quoted name ++ codes "}")
-command_text (Monitor key grant level) =
+unfoldable pub line_text : Command → List ℕ
+line_text (Install rule) = codes "{\"do\":\"install\",\"rule\":" ++ (rule_text rule ++ codes "}")
+line_text (Activate name) = codes "{\"do\":\"activate\",\"name\":" ++ (quoted name ++ codes "}")
+line_text (Monitor key grant level) =
     codes "{\"do\":\"monitor\",\"key\":" ++ (quoted key ++ (codes ",\"grant\":" ++ (decimal grant ++ (codes ",\"level\":\"" ++ (level_word level ++ codes "\"}")))))
-command_text (Triggers set) = codes "{\"do\":\"triggers\",\"events\":[" ++ (listed (event_words set) ++ codes "]}")
-command_text Close = codes "{\"do\":\"close\"}"
-command_text other = []
+line_text (Triggers set) = codes "{\"do\":\"triggers\",\"events\":[" ++ (with_commas (event_words set) ++ codes "]}")
+line_text Close = codes "{\"do\":\"close\"}"
+line_text other = []
 
 -- the text is a line that says this command
-unfoldable pub ReadsAs : List ℕ → Command → Type 0
-ReadsAs text c = (has_line c ≡ true) × LineOf text (Ok (of_command c))
+unfoldable pub SaysCommand : List ℕ → Command → Type 0
+SaysCommand text c = (has_line c ≡ true) × LineOf text (Ok (of_command c))
 
 -- its own line does
 abbrev pub ReadsBack : Command → Type 0
-ReadsBack c = ReadsAs (command_text c) c
+ReadsBack c = SaysCommand (line_text c) c

@@ -8,15 +8,15 @@ use Rattle.pcef_model.specs.Refusals.{was_terminated}
 use Rattle.pcef_model.specs.Setting.{Setting}
 use Rattle.pcef_renewal.specs.Renewal.{renewal}
 use Rattle.pcef_renewal_lines.specs.Addresses.{address_text}
-use Rattle.pcef_renewal_lines.specs.Commands.{ReadsBack, command_text, listed}
+use Rattle.pcef_renewal_lines.specs.Commands.{ReadsBack, line_text, with_commas}
 
 -- ---- lines
 abbrev pub open_text : Addr → List ℕ
 open_text ue = codes "{\"do\":\"open\",\"ue\":\"" ++ (address_text ue ++ codes "\"}")
 
 -- an `open` with this address, and a line for each of these commands
-abbrev pub lines_of : Addr → List Command → List (List ℕ)
-lines_of ue list = open_text ue ∷ map command_text list
+abbrev pub lines_for : Addr → List Command → List (List ℕ)
+lines_for ue list = open_text ue ∷ map line_text list
 
 -- each line reads as what it was made of: the address of the first one, and the commands of the others
 pub record AreReadable (ue : Addr) (list : List Command) : Type 0 where
@@ -25,14 +25,14 @@ pub record AreReadable (ue : Addr) (list : List Command) : Type 0 where
 
 -- ---- of a session: its own address, and its renewal
 abbrev pub session_lines : Setting → Journal → List (List ℕ)
-session_lines p j = lines_of p.ue (renewal p j)
+session_lines p j = lines_for p.ue (renewal p j)
 
 abbrev pub HasLines : Setting → Journal → Type 0
 HasLines p j = AreReadable p.ue (renewal p j)
 
 -- ---- the answer
 abbrev pub shown_text : Setting → Journal → List ℕ
-shown_text p j = codes "{\"lines\":[" ++ (listed (session_lines p j) ++ codes "],\"ok\":true}")
+shown_text p j = codes "{\"lines\":[" ++ (with_commas (session_lines p j) ++ codes "],\"ok\":true}")
 
 abbrev pub terminated_text : List ℕ
 terminated_text = codes "{\"name\":\"Terminated\",\"refused\":1}"

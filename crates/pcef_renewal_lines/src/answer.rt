@@ -1,9 +1,9 @@
 //! The answer that shows a session's lines.
 
 ghost use Rattle.std.specs.Prelude.{◌≡◌, ◌++◌, IfOk, OnOk, Err, codes, map, string_bytes};
-ghost use Rattle.pcef_renewal_lines.specs.Commands.{listed};
+ghost use Rattle.pcef_renewal_lines.specs.Commands.{with_commas};
 ghost use Rattle.pcef_renewal_lines.specs.Lines.{AnswersLines};
-ghost use Rattle.pcef_renewal_lines.specs.private.Written.{IsRefusal};
+ghost use Rattle.pcef_renewal_lines.specs.private.Written.{IsWhyNot};
 
 use crate::lines::{LinesRefusal, renewal_lines};
 use pcef_session::SessionState;
@@ -11,14 +11,14 @@ use std::alloc::{AllocError, Global};
 
 fn lines_text(alloc: Global, lines: &[String]) -> Result<String, AllocError>
     ensures { IfOk result (λ text. string_bytes text ≡ codes "{\"lines\":["
-        ++ (listed (map string_bytes lines.now) ++ codes "],\"ok\":true}")) }
+        ++ (with_commas (map string_bytes lines.now) ++ codes "],\"ok\":true}")) }
 {
     let list = lines.join(alloc, ",")?;
     format!(in alloc; "{{\"lines\":[{list}],\"ok\":true}}")
 }
 
 fn refusal_text(alloc: Global, refusal: LinesRefusal) -> Result<String, AllocError>
-    ensures { IfOk result (λ text. IsRefusal refusal (string_bytes text)) }
+    ensures { IfOk result (λ text. IsWhyNot refusal (string_bytes text)) }
 {
     match refusal {
         LinesRefusal::Terminated => {

@@ -2,7 +2,7 @@
 
 ghost use Rattle.std.specs.Prelude.{◌≡◌, ◌++◌, IfOk, OnOk, map, string_bytes};
 ghost use Rattle.pcef_model.specs.declared.command.Command.TheVariants as of;
-ghost use Rattle.pcef_renewal_lines.specs.Commands.{command_text, event_words, level_word, word_if};
+ghost use Rattle.pcef_renewal_lines.specs.Commands.{line_text, event_words, level_word, word_if};
 
 use crate::rule::{quoted, rule_text};
 use pcef_line::event_text;
@@ -10,17 +10,17 @@ use pcef_model::{AccessKind, Command, Level, TriggerSet};
 use pcef_rule::{KeyName, Rule, RuleName};
 use std::alloc::{AllocError, Global};
 
-#[tactic(auto, unfolding(crate::specs::Commands::command_text))]
+#[tactic(auto, unfolding(crate::specs::Commands::line_text))]
 fn install_line(alloc: Global, rule: &Rule) -> Result<String, AllocError>
-    ensures { IfOk result (λ text. string_bytes text ≡ command_text (of.Install rule.now)) }
+    ensures { IfOk result (λ text. string_bytes text ≡ line_text (of.Install rule.now)) }
 {
     let rule = rule_text(alloc, rule)?;
     format!(in alloc; "{{\"do\":\"install\",\"rule\":{rule}}}")
 }
 
-#[tactic(auto, unfolding(crate::specs::Commands::command_text))]
+#[tactic(auto, unfolding(crate::specs::Commands::line_text))]
 fn activate_line(alloc: Global, name: &RuleName) -> Result<String, AllocError>
-    ensures { IfOk result (λ text. string_bytes text ≡ command_text (of.Activate name.now)) }
+    ensures { IfOk result (λ text. string_bytes text ≡ line_text (of.Activate name.now)) }
 {
     let name = quoted(alloc, name.as_str())?;
     format!(in alloc; "{{\"do\":\"activate\",\"name\":{name}}}")
@@ -35,14 +35,14 @@ fn level_word(level: Level) -> &'static str
     }
 }
 
-#[tactic(auto, unfolding(crate::specs::Commands::command_text))]
+#[tactic(auto, unfolding(crate::specs::Commands::line_text))]
 fn monitor_line(
     alloc: Global,
     key: &KeyName,
     grant: u64,
     level: Level,
 ) -> Result<String, AllocError>
-    ensures { IfOk result (λ text. string_bytes text ≡ command_text (of.Monitor key.now grant level)) }
+    ensures { IfOk result (λ text. string_bytes text ≡ line_text (of.Monitor key.now grant level)) }
 {
     let key = quoted(alloc, key.as_str())?;
     let level = level_word(level);
@@ -88,9 +88,9 @@ fn event_words(alloc: Global, set: TriggerSet) -> Result<Vec<String>, AllocError
     Ok(events)
 }
 
-#[tactic(auto, unfolding(crate::specs::Commands::command_text))]
+#[tactic(auto, unfolding(crate::specs::Commands::line_text))]
 fn triggers_line(alloc: Global, set: TriggerSet) -> Result<String, AllocError>
-    ensures { IfOk result (λ text. string_bytes text ≡ command_text (of.Triggers set)) }
+    ensures { IfOk result (λ text. string_bytes text ≡ line_text (of.Triggers set)) }
 {
     let events = event_words(alloc, set)?;
     let events = events.join(alloc, ",")?;
@@ -98,9 +98,9 @@ fn triggers_line(alloc: Global, set: TriggerSet) -> Result<String, AllocError>
 }
 
 /// The line of a command, where a renewal may have it, and else nothing.
-#[tactic(auto, unfolding(crate::specs::Commands::command_text))]
-pub(crate) fn command_text(alloc: Global, command: &Command) -> Result<String, AllocError>
-    ensures { IfOk result (λ text. string_bytes text ≡ command_text command.now) }
+#[tactic(auto, unfolding(crate::specs::Commands::line_text))]
+pub(crate) fn line_text(alloc: Global, command: &Command) -> Result<String, AllocError>
+    ensures { IfOk result (λ text. string_bytes text ≡ line_text command.now) }
 {
     match command {
         Command::Install(rule) => install_line(alloc, rule),

@@ -4,12 +4,12 @@ ghost use Rattle.std.specs.Prelude.{◌≡◌, ◌↔◌, Err, IfOk, OnOk, Some,
 ghost use Rattle.pcef_packet.specs.AddressTexts.{address_of};
 ghost use Rattle.pcef_model.specs.Refusals.{was_terminated};
 ghost use Rattle.pcef_renewal_lines.specs.Addresses.{address_text};
-ghost use Rattle.pcef_renewal_lines.specs.Commands.{ReadsBack, command_text};
-ghost use Rattle.pcef_renewal_lines.specs.Lines.{AreReadable, HasLines, lines_of, open_text, session_lines};
+ghost use Rattle.pcef_renewal_lines.specs.Commands.{ReadsBack, line_text};
+ghost use Rattle.pcef_renewal_lines.specs.Lines.{AreReadable, HasLines, lines_for, open_text, session_lines};
 ghost use Rattle.pcef_renewal_lines.specs.private.Written.{AreAdded, AreLines, IsLine};
 
 use crate::address::address_text;
-use crate::command::command_text;
+use crate::command::line_text;
 use crate::reading::reads_as;
 use pcef_model::Command;
 use pcef_packet::Addr;
@@ -48,9 +48,9 @@ fn open_line(alloc: Global, ue: Addr) -> Result<Option<String>, AllocError>
 /// The line of a command, if it reads as this one.
 fn command_line(alloc: Global, command: &Command) -> Result<Option<String>, AllocError>
     ensures { IfOk result (λ line. IsLine line (ReadsBack command.now)
-        (command_text command.now)) }
+        (line_text command.now)) }
 {
-    let text = command_text(alloc, command)?;
+    let text = line_text(alloc, command)?;
     if reads_as(alloc, &text, command)? {
         Ok(Some(text))
     } else {
@@ -78,9 +78,9 @@ fn push_lines(
 }
 
 /// An `open` with this address, and the lines of these commands, if each reads as what it was made of.
-fn lines_of(alloc: Global, ue: Addr, list: &[Command]) -> Result<Option<Vec<String>>, AllocError>
+fn lines_for(alloc: Global, ue: Addr, list: &[Command]) -> Result<Option<Vec<String>>, AllocError>
     ensures { IfOk result (λ lines. AreLines lines (AreReadable ue list.now)
-        (lines_of ue list.now)) }
+        (lines_for ue list.now)) }
 {
     let Some(open) = open_line(alloc, ue)? else {
         return Ok(None);
@@ -110,7 +110,7 @@ pub fn renewal_lines(alloc: Global, session: &SessionState) -> Result<Vec<String
         Err(ListFault::Terminated) => return Err(LinesRefusal::Terminated),
         Err(ListFault::NoMemory) => return Err(LinesRefusal::NoMemory),
     };
-    match lines_of(alloc, session.profile().ue, &list) {
+    match lines_for(alloc, session.profile().ue, &list) {
         Ok(Some(lines)) => Ok(lines),
         Ok(None) => Err(LinesRefusal::Unwritable),
         Err(_) => Err(LinesRefusal::NoMemory),

@@ -1,9 +1,9 @@
 //! Whether a line reads as its command.
 
-ghost use Rattle.std.specs.Prelude.{◌≡◌, ◌↔◌, IfOk, IsTrue, true};
+ghost use Rattle.std.specs.Prelude.{◌≡◌, ◌≢◌, ◌↔◌, IfOk, IsTrue, false, true};
 ghost use Rattle.pcef_line.specs.LineOf.{of_command};
 ghost use Rattle.pcef_model.specs.declared.command.Command.TheVariants as of;
-ghost use Rattle.pcef_renewal_lines.specs.Commands.{ReadsAs, has_line};
+ghost use Rattle.pcef_renewal_lines.specs.Commands.{SaysCommand, has_line};
 
 use pcef_line::{Line, LineFault, read_line};
 use pcef_model::{Command, Level, Step, TriggerSet};
@@ -84,13 +84,22 @@ fn is_line_of(line: &Line, command: &Command) -> bool
     }
 }
 
+/// A text with a fault reads as no command. Fails where the fault is want of memory.
+fn reads_nothing(fault: LineFault) -> Result<bool, AllocError>
+    ensures { IfOk result (λ b. (b ≡ false) × (fault ≢ LineFault.NoMemory)) }
+{
+    match fault {
+        LineFault::NoMemory => Err(AllocError),
+        _ => Ok(false),
+    }
+}
+
 /// Whether a text reads as this command. Takes memory for the line.
 pub(crate) fn reads_as(alloc: Global, text: &str, command: &Command) -> Result<bool, AllocError>
-    ensures { IfOk result (λ b. IsTrue b ↔ ReadsAs text.now command.now) }
+    ensures { IfOk result (λ b. IsTrue b ↔ SaysCommand text.now command.now) }
 {
     match read_line(alloc, text) {
         Ok(line) => Ok(is_line_of(&line, command)),
-        Err(LineFault::NoMemory) => Err(AllocError),
-        Err(_) => Ok(false),
+        Err(fault) => reads_nothing(fault),
     }
 }

@@ -21,7 +21,7 @@ use Rattle.pcef_lists.specs.Readings.{◌>>=◌, or_fault, passing}
 use Rattle.pcef_script.specs.ScriptAnswers.{AnswersAs, AnswersLine, DueWithin, LineDue}
 use Rattle.pcef_script.specs.ScriptLines.{within_limit}
 use Rattle.pcef_sessions.specs.declared.asking.Asking.{Asking}
-use Rattle.pcef_sessions.specs.declared.asking.Asking.TheVariants.{End, Renew, Script}
+use Rattle.pcef_sessions.specs.declared.asking.Asking.TheVariants.{End, Lines, Renew, Script}
 use Rattle.pcef_sessions.specs.Asked.{alone_at, asked_at, asked_of, asked_read, asked_within, by_word, if_utf8, open_at}
 
 abbrev taken : Line → Result Line LineFault
@@ -47,19 +47,21 @@ no_line : (reads : FilterReading) (d : Data) (l : Line) → word_at d ≡ Err Un
 unfolding line_at
 no_line reads d l none is = no_line_by reads d l (is_some (as_object d)) none is
 
-by_tests : (w : List ℕ) (d : Data) (opens renews ends : Bool) → (opens ≡ true → ⊥) → (renews ≡ true → ⊥) → (ends ≡ true → ⊥)
-    → (if opens then open_at d else if renews then alone_at Renew d else if ends then alone_at End d else Script) ≡ Script
-by_tests w d true renews ends a b e = absurd (a refl)
-by_tests w d false true ends a b e = absurd (b refl)
-by_tests w d false false true a b e = absurd (e refl)
-by_tests w d false false false a b e = refl
+by_tests : (w : List ℕ) (d : Data) (opens renews shows ends : Bool) → (opens ≡ true → ⊥) → (renews ≡ true → ⊥) → (shows ≡ true → ⊥) → (ends ≡ true → ⊥)
+    → (if opens then open_at d else if renews then alone_at Renew d else if shows then alone_at Lines d else if ends then alone_at End d else Script) ≡ Script
+by_tests w d true renews shows ends a b s e = absurd (a refl)
+by_tests w d false true shows ends a b s e = absurd (b refl)
+by_tests w d false false true ends a b s e = absurd (s refl)
+by_tests w d false false false true a b s e = absurd (e refl)
+by_tests w d false false false false a b s e = refl
 
 no_other : (word : Option (List ℕ)) (d : Data) → ((w : List ℕ) → word ≡ Some w → word_of w ≡ None → ⊥) → by_word word d ≡ Script
 no_other None d known = refl
 no_other (Some w) d known =
-    by_tests w d (bytes_eq w (codes "open")) (bytes_eq w (codes "renew")) (bytes_eq w (codes "end"))
+    by_tests w d (bytes_eq w (codes "open")) (bytes_eq w (codes "renew")) (bytes_eq w (codes "lines")) (bytes_eq w (codes "end"))
     (λ is. known w refl (ap word_of ((bytes_eq-Decides w (codes "open")).0 is)))
     (λ is. known w refl (ap word_of ((bytes_eq-Decides w (codes "renew")).0 is)))
+    (λ is. known w refl (ap word_of ((bytes_eq-Decides w (codes "lines")).0 is)))
     (λ is. known w refl (ap word_of ((bytes_eq-Decides w (codes "end")).0 is)))
 
 asks_none : (reads : FilterReading) (d : Data) (l : Line) → line_at reads d ≡ taken l → asked_at d ≡ Script

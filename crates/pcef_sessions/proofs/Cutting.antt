@@ -123,6 +123,7 @@ by_asking : (p : Setting) (there : Option Session) (asks : Asking) (l m text : L
 by_asking p None asks l m text at_fault after same h = h
 by_asking p (Some s) (asking.Open ue) l m text at_fault after same h = h
 by_asking p (Some s) asking.Renew l m text at_fault after same h = h
+by_asking p (Some s) asking.Lines l m text at_fault after same h = h
 by_asking p (Some s) asking.End l m text at_fault after same h = h
 by_asking p (Some s) (asking.Fault why) l m text at_fault after same h = h
 by_asking p (Some s) asking.Script l m text at_fault after same h =

@@ -15,6 +15,7 @@ use Rattle.pcef_sessions.proofs.Asks.{fault_stays, is_of_script}
 asks_without : (p : Setting) (asks : Asking) (a : LineAnswer) (after : Option Session) → AsksOf p None asks a after → WithoutSession p asks (string_bytes a.text) a.is_fault after
 asks_without p (asking.Open ue) a after h = h
 asks_without p asking.Renew a after h = h
+asks_without p asking.Lines a after h = h
 asks_without p asking.End a after h = h
 asks_without p (asking.Fault why) a after h = h
 asks_without p asking.Script a after h = h
@@ -44,6 +45,7 @@ instead_by p s asks line script a between after runs wrong h = by_asks asks h
     by_asks : (asks : Asking) → InsteadOf p between asks script a after → UnderBy p (Some s) asks line (string_bytes a.text) a.is_fault after
     by_asks (asking.Open ue) h = subst (λ o. AsksOf p o (asking.Open ue) a after) same h
     by_asks asking.Renew h = subst (λ o. AsksOf p o asking.Renew a after) same h
+    by_asks asking.Lines h = subst (λ o. AsksOf p o asking.Lines a after) same h
     by_asks asking.End h = subst (λ o. AsksOf p o asking.End a after) same h
     by_asks (asking.Fault why) h = subst (λ o. AsksOf p o (asking.Fault why) a after) same h
     by_asks asking.Script h =

@@ -1,4 +1,4 @@
--- What a line asks of the sessions: to open one, to renew one, to end one, or none of these (own choice; JSON: RFC 8259).
+-- What a line asks of the sessions: to open one, to renew one, to show its lines, to end one, or none of these (own choice; JSON: RFC 8259).
 use Rattle.std.specs.Prelude.{ℕ, ◌&&◌, ◌||◌, List, codes, Bool, true, false, Option, Some, None, option_and_then, if◌then◌else◌}
 use Rattle.std.specs.Str.{bytes_eq, is_utf8}
 use Rattle.serde_json.specs.Data.{Data, Members, no_members, member}
@@ -9,7 +9,7 @@ use Rattle.pcef_packet.specs.AddressTexts.{address_of}
 use Rattle.pcef_lists.specs.Readings.{if_there}
 use Rattle.pcef_script.specs.ScriptLines.{within_limit}
 use Rattle.pcef_sessions.specs.declared.asking.Asking.{Asking}
-use Rattle.pcef_sessions.specs.declared.asking.Asking.TheVariants.{Open, Renew, End, Fault, Script}
+use Rattle.pcef_sessions.specs.declared.asking.Asking.TheVariants.{Open, Renew, Lines, End, Fault, Script}
 use Rattle.pcef_sessions.specs.declared.asking.AskingFault.TheVariants.{UnknownField, BadUe}
 
 -- the fields that a word may have: `open` has one beside `do`, the others have none
@@ -47,6 +47,7 @@ by_word None d = Script
 by_word (Some word) d =
     if bytes_eq word (codes "open") then open_at d
     else if bytes_eq word (codes "renew") then alone_at Renew d
+    else if bytes_eq word (codes "lines") then alone_at Lines d
     else if bytes_eq word (codes "end") then alone_at End d
     else Script
 

@@ -6,6 +6,7 @@ use Rattle.pcef_model.specs.Journals.{report_count}
 use Rattle.pcef_world.specs.Steps.{Standing, at_start}
 use Rattle.pcef_line.specs.declared.fault.LineFault.TheVariants as line
 use Rattle.pcef_answer.specs.FaultAnswers.{fault_text}
+use Rattle.pcef_renewal_lines.specs.Lines.{AnswersLines}
 use Rattle.pcef_renewal_answer.specs.Renewed.{Kept, renew_outcome}
 use Rattle.pcef_script.specs.ScriptAnswers.{AnswersLine, IsDoneOrNot}
 use Rattle.pcef_sessions.specs.declared.asking.Asking.{Asking}
@@ -70,19 +71,25 @@ asking_fault_text fault.BadUe = bad_ue_text
 abbrev pub Says : List ℕ → Bool → Option Session → List ℕ → Bool → Option Session → Type 0
 Says due is_fault next text at_fault after = (text ≡ due) × (at_fault ≡ is_fault) × (after ≡ next)
 
+-- the lines that make a new session like this one are shown, and nothing changes
+abbrev pub ShowsLines : Session → List ℕ → Bool → Option Session → Type 0
+ShowsLines s text at_fault after = AnswersLines s.setting s.standing.journal text × (at_fault ≡ false) × (after ≡ Some s)
+
 -- where no session is open, one may be opened, and nothing else is done
 abbrev pub WithoutSession : Setting → Asking → List ℕ → Bool → Option Session → Type 0
 WithoutSession p (asking.Open ue) text at_fault after = Says done_text false (Some (opened (with_address ue p))) text at_fault after
 WithoutSession p asking.Renew text at_fault after = Says no_session_text false None text at_fault after
+WithoutSession p asking.Lines text at_fault after = Says no_session_text false None text at_fault after
 WithoutSession p asking.End text at_fault after = Says no_session_text false None text at_fault after
 WithoutSession p (asking.Fault why) text at_fault after = Says (asking_fault_text why) true None text at_fault after
 WithoutSession p asking.Script text at_fault after = Says no_session_text false None text at_fault after
 
--- a session that is open answers a line of a script as the script does, and goes on; `renew` puts a new one in its place, and
--- `end` takes it away
+-- a session that is open answers a line of a script as the script does, and goes on; `renew` puts a new one in its place,
+-- `lines` leaves it as it is, and `end` takes it away
 abbrev pub InSession : Session → Asking → List ℕ → List ℕ → Bool → Option Session → Type 0
 InSession s (asking.Open ue) line text at_fault after = Says is_open_text false (Some s) text at_fault after
 InSession s asking.Renew line text at_fault after = Says (renewal_text s) false (Some (renewed s)) text at_fault after
+InSession s asking.Lines line text at_fault after = ShowsLines s text at_fault after
 InSession s asking.End line text at_fault after = Says done_text false None text at_fault after
 InSession s (asking.Fault why) line text at_fault after = Says (asking_fault_text why) true (Some s) text at_fault after
 InSession s asking.Script line text at_fault after =

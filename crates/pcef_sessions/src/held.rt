@@ -3,6 +3,7 @@
 ghost use Rattle.std.specs.Prelude.{◌≡◌, ◌⊎◌, IfOk, OnErr, OnOk, false, string_bytes};
 ghost use Rattle.std.specs.Arc.{arc_value};
 ghost use Rattle.pcef_model.specs.Journals.{report_count};
+ghost use Rattle.pcef_renewal_lines.specs.Lines.{AnswersLines};
 ghost use Rattle.pcef_script.specs.ScriptAnswers.{AnswersLine, LacksForLine};
 ghost use Rattle.pcef_script.specs.ScriptLines.{is_blank_line};
 ghost use Rattle.pcef_sessions.specs.Under.{renewal_text, renewed};
@@ -103,7 +104,11 @@ impl Held {
     }
 
     /// Shows the lines that make a new session like this one.
-    pub(crate) fn lines(&self, alloc: Global) -> Result<LineAnswer, AllocError> {
+    pub(crate) fn lines(&self, alloc: Global) -> Result<LineAnswer, AllocError>
+        ensures text { IfOk result (λ a. AnswersLines self.now.session.setting
+            self.now.session.standing.journal (string_bytes a.text)) }
+        ensures fault { IfOk result (λ a. a.is_fault ≡ false) }
+    {
         Ok(LineAnswer {
             text: answer_lines(alloc, self.world.session())?,
             is_fault: false,

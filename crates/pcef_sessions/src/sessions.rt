@@ -12,7 +12,7 @@ ghost use Rattle.pcef_sessions.specs.Sayings.{AnswersNamedLine, LacksForNamedLin
 ghost use Rattle.pcef_sessions.specs.declared.asking.Asking.TheVariants as asking;
 ghost use Rattle.pcef_sessions.specs.Standing.{Becomes, fixed, held};
 ghost use Rattle.pcef_sessions.specs.Under.{opened, with_address};
-ghost use Rattle.pcef_sessions.specs.private.Steps.{AllStay, AnswersIn, Asks, AsksInstead, LacksAsked, LacksIn, OthersStay, RunLacks, Runs};
+ghost use Rattle.pcef_sessions.specs.private.Steps.{AllStay, AnswersIn, Asks, AsksInstead, AsksOf, LacksAsked, LacksIn, OthersStay, RunLacks, Runs};
 
 use crate::asking::{Asking, asked_of};
 use crate::held::Held;
@@ -209,7 +209,10 @@ impl Sessions {
     }
 
     /// The answer to a line that asks for the session's lines.
-    fn asked_lines(&self, name: &SessionName) -> Result<LineAnswer, AllocError> {
+    fn asked_lines(&self, name: &SessionName) -> Result<LineAnswer, AllocError>
+        ensures { IfOk result (λ a. AsksOf (fixed self.now) (held self.now name.now) asking.Lines a
+            (held self.now name.now)) }
+    {
         match self.table.get(name) {
             None => says(self.alloc, "{\"name\":\"NoSession\",\"refused\":0}", false),
             Some(held) => held.lines(self.alloc),

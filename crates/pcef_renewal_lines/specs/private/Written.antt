@@ -4,7 +4,7 @@ use Rattle.std.specs.declared.alloc.Global.{Global}
 use Rattle.pcef_model.specs.declared.command.Command.{Command}
 use Rattle.pcef_renewal_lines.specs.declared.lines.LinesRefusal.{LinesRefusal}
 use Rattle.pcef_renewal_lines.specs.declared.lines.LinesRefusal.TheVariants.{Terminated, Unwritable, NoMemory}
-use Rattle.pcef_renewal_lines.specs.Commands.{ReadsBack, command_text}
+use Rattle.pcef_renewal_lines.specs.Commands.{ReadsBack, line_text}
 use Rattle.pcef_renewal_lines.specs.Lines.{terminated_text, unwritable_text}
 
 -- one line, where `Readable` holds of it
@@ -20,10 +20,10 @@ AreLines (Some lines) Readable texts = Readable × (map string_bytes lines.items
 -- the lines of commands, behind those that are there
 abbrev pub AreAdded : Bool → List Command → List (String Global) → List (String Global) → Type 0
 AreAdded false list old new = ¬ (All ReadsBack list)
-AreAdded true list old new = All ReadsBack list × (map string_bytes new ≡ map string_bytes old ++ map command_text list)
+AreAdded true list old new = All ReadsBack list × (map string_bytes new ≡ map string_bytes old ++ map line_text list)
 
 -- the text of a refusal
-abbrev pub IsRefusal : LinesRefusal → List ℕ → Type 0
-IsRefusal Terminated text = text ≡ terminated_text
-IsRefusal Unwritable text = text ≡ unwritable_text
-IsRefusal NoMemory text = ⊥
+abbrev pub IsWhyNot : LinesRefusal → List ℕ → Type 0
+IsWhyNot Terminated text = text ≡ terminated_text
+IsWhyNot Unwritable text = text ≡ unwritable_text
+IsWhyNot NoMemory text = ⊥

@@ -9,7 +9,7 @@ use Rattle.pcef_sessions.specs.declared.asking.Asking.TheVariants as asking
 use Rattle.pcef_sessions.specs.declared.sessions.Sessions.{Sessions}
 use Rattle.pcef_sessions.specs.Asked.{asked_of}
 use Rattle.pcef_sessions.specs.Standing.{fixed, held}
-use Rattle.pcef_sessions.specs.Under.{LacksUnder, Session, Says, UnderName, asking_fault_text, done_text, is_open_text, no_session_text, opened, renewal_text, renewed, with_address}
+use Rattle.pcef_sessions.specs.Under.{LacksUnder, Session, Says, ShowsLines, UnderName, asking_fault_text, done_text, is_open_text, no_session_text, opened, renewal_text, renewed, with_address}
 
 -- nothing changes under the other names
 abbrev pub OthersStay : Sessions → List ℕ → Sessions → Type 0
@@ -40,6 +40,8 @@ AsksOf p None (asking.Open ue) a after = Says done_text false (Some (opened (wit
 AsksOf p (Some s) (asking.Open ue) a after = Says is_open_text false (Some s) (string_bytes a.text) a.is_fault after
 AsksOf p None asking.Renew a after = Says no_session_text false None (string_bytes a.text) a.is_fault after
 AsksOf p (Some s) asking.Renew a after = Says (renewal_text s) false (Some (renewed s)) (string_bytes a.text) a.is_fault after
+AsksOf p None asking.Lines a after = Says no_session_text false None (string_bytes a.text) a.is_fault after
+AsksOf p (Some s) asking.Lines a after = ShowsLines s (string_bytes a.text) a.is_fault after
 AsksOf p None asking.End a after = Says no_session_text false None (string_bytes a.text) a.is_fault after
 AsksOf p (Some s) asking.End a after = Says done_text false None (string_bytes a.text) a.is_fault after
 AsksOf p there (asking.Fault why) a after = Says (asking_fault_text why) true there (string_bytes a.text) a.is_fault after
@@ -59,6 +61,7 @@ LacksAsked old name asks new = AskLacks (held old name) asks (held new name) × 
 abbrev pub InsteadOf : Setting → Option Session → Asking → LineAnswer → LineAnswer → Option Session → Type 0
 InsteadOf p there (asking.Open ue) script a after = AsksOf p there (asking.Open ue) a after
 InsteadOf p there asking.Renew script a after = AsksOf p there asking.Renew a after
+InsteadOf p there asking.Lines script a after = AsksOf p there asking.Lines a after
 InsteadOf p there asking.End script a after = AsksOf p there asking.End a after
 InsteadOf p there (asking.Fault why) script a after = AsksOf p there (asking.Fault why) a after
 InsteadOf p there asking.Script script a after = (a ≡ script) × (after ≡ there)
