@@ -1,11 +1,13 @@
 -- The lines that make a new session like an open one, and the answer that shows them (own choice).
-use Rattle.std.specs.Prelude.{ℕ, ◌≡◌, ◌⊎◌, ◌++◌, All, List, ◌∷◌, Bool, true, false, Some, codes, map}
+use Rattle.std.specs.Prelude.{ℕ, ◌≡◌, ◌⊎◌, ◌++◌, All, List, [], ◌∷◌, Bool, true, false, Some, codes, map}
 use Rattle.pcef_packet.specs.declared.header.Addr.{Addr}
 use Rattle.pcef_packet.specs.AddressTexts.{address_of}
 use Rattle.pcef_model.specs.declared.command.Command.{Command}
 use Rattle.pcef_model.specs.Entries.{Journal}
+use Rattle.pcef_model.specs.Lawful.{Lawful}
 use Rattle.pcef_model.specs.Refusals.{was_terminated}
 use Rattle.pcef_model.specs.Setting.{Setting}
+use Rattle.pcef_renewal.specs.Accepting.{entered}
 use Rattle.pcef_renewal.specs.Renewal.{renewal}
 use Rattle.pcef_renewal_lines.specs.Addresses.{address_text}
 use Rattle.pcef_renewal_lines.specs.Commands.{ReadsBack, line_text, with_commas}
@@ -29,6 +31,15 @@ session_lines p j = lines_for p.ue (renewal p j)
 
 abbrev pub HasLines : Setting → Journal → Type 0
 HasLines p j = AreReadable p.ue (renewal p j)
+
+-- ---- at the two places for which they are meant
+-- right behind its `open`
+abbrev pub NewSessionsHaveTheirOpen : Type 0
+NewSessionsHaveTheirOpen = (p : Setting) → session_lines p [] ≡ open_text p.ue ∷ []
+
+-- right behind a renewal
+abbrev pub LinesComeAgain : Type 0
+LinesComeAgain = (p : Setting) (j : Journal) → Lawful p j → session_lines p (entered (renewal p j) []) ≡ session_lines p j
 
 -- ---- the answer
 abbrev pub shown_text : Setting → Journal → List ℕ

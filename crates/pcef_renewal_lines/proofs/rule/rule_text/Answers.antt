@@ -1,11 +1,13 @@
-use Rattle.std.proofs.Common.{◌∙◌, ap, sym}
+use Rattle.std.proofs.Common.{◌∙◌, ap}
+use Rattle.std.proofs.lemmas.Result.{IfOk-weaker}
 use Rattle.json.specs.Print.{quoted}
-use Rattle.pcef_renewal_lines.specs.Rules.{rule_text}
+use Rattle.pcef_renewal_lines.proofs.RuleTexts.{rule_is}
 use Rattle.pcef_renewal_lines.proofs.rule.rule_text.Goals as goal
 
 pub returns : goal.returns
-unfolding rule_text
 returns c =
-    let name = c.in_ok-name.ensures ∙ ap quoted c.as_str.ensures.text in
-    rw (sym c.properties-properties.ensures, sym c.filters.ensures, sym name, sym c.in_ok-filters.ensures, sym c.in_ok-arp.ensures, sym c.in_ok-rates.ensures, sym c.gate_word-gate.ensures, sym c.in_ok-key.ensures)
+    IfOk-weaker c.format.result _ _
+    (λ text is. is ∙ rule_is c.args.rule.now c.properties-properties.result.now c.filters.result.now _ _ _ _ _ _
+    c.properties-properties.ensures c.filters.ensures (c.in_ok-name.ensures ∙ ap quoted c.as_str.ensures.text) c.in_ok-filters.ensures c.in_ok-arp.ensures
+    c.in_ok-rates.ensures c.gate_word-gate.ensures c.in_ok-key.ensures)
     c.format.ensures.ok
