@@ -46,7 +46,9 @@ fn monitor_line(
 {
     let key = quoted(alloc, key.as_str())?;
     let level = level_word(level);
-    format!(in alloc; "{{\"do\":\"monitor\",\"key\":{key},\"grant\":{grant},\"level\":\"{level}\"}}")
+    format!(in alloc;
+        "{{\"do\":\"monitor\",\"key\":{key},\"grant\":{grant},\"level\":\"{level}\"}}"
+    )
 }
 
 /// Adds the word of an event, if it is subscribed.
@@ -71,8 +73,18 @@ fn event_words(alloc: Global, set: TriggerSet) -> Result<Vec<String>, AllocError
 {
     let mut events = Vec::new(alloc);
     push_event(alloc, &mut events, set.usage_report, "USAGE_REPORT")?;
-    push_event(alloc, &mut events, set.rat_change, event_text(AccessKind::RatChange))?;
-    push_event(alloc, &mut events, set.plmn_change, event_text(AccessKind::PlmnChange))?;
+    push_event(
+        alloc,
+        &mut events,
+        set.rat_change,
+        event_text(AccessKind::RatChange),
+    )?;
+    push_event(
+        alloc,
+        &mut events,
+        set.plmn_change,
+        event_text(AccessKind::PlmnChange),
+    )?;
     push_event(
         alloc,
         &mut events,

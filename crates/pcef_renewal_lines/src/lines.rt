@@ -59,11 +59,7 @@ fn command_line(alloc: Global, command: &Command) -> Result<Option<String>, Allo
 }
 
 /// Adds the lines of commands, up to one that doesn't read as its command. Returns whether all were added.
-fn push_lines(
-    alloc: Global,
-    lines: &mut Vec<String>,
-    list: &[Command],
-) -> Result<bool, AllocError>
+fn push_lines(alloc: Global, lines: &mut Vec<String>, list: &[Command]) -> Result<bool, AllocError>
     ensures { IfOk result (λ all. AreAdded all list.now lines.old.items lines.new.items) }
 {
     for command in list {

@@ -23,7 +23,9 @@ fn arp_text(alloc: Global, arp: Arp) -> Result<String, AllocError>
     let level = arp.level();
     let capability = arp.capability();
     let vulnerability = arp.vulnerability();
-    format!(in alloc; "{{\"level\":{level},\"capability\":{capability},\"vulnerability\":{vulnerability}}}")
+    format!(in alloc;
+        "{{\"level\":{level},\"capability\":{capability},\"vulnerability\":{vulnerability}}}"
+    )
 }
 
 /// The guaranteed rates of a rule, if it has any.
@@ -75,5 +77,6 @@ pub(crate) fn rule_text(alloc: Global, rule: &Rule) -> Result<String, AllocError
     let gate = gate_word(properties.gate);
     let key = key_part(alloc, &properties.key)?;
     format!(in alloc;
-        "{{\"name\":{name},\"precedence\":{precedence},\"filters\":[{filters}],\"qci\":{qci},\"arp\":{arp}{rates},\"gate\":\"{gate}\"{key}}}")
+        "{{\"name\":{name},\"precedence\":{precedence},\"filters\":[{filters}],\"qci\":{qci},\"arp\":{arp}{rates},\"gate\":\"{gate}\"{key}}}"
+    )
 }

@@ -13,5 +13,5 @@ loop-command-preserved c =
     record {
       readable = All-more ReadsBack list i command c.loop-command-test.true c.loop-command.invariant.readable (subst ReadsBack c.command-item.is line.0);
       written = added list i command c.args.lines.now.items c.loop-command.lines.items c.push.new.self.items c.in-Some.line c.loop-command-test.true c.command-item.is
-      c.in_ok-push-in-Some.ensures.items line.1 c.loop-command.invariant.written;
+          c.in_ok-push-in-Some.ensures.items line.1 c.loop-command.invariant.written;
     }

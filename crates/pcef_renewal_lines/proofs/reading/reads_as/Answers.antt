@@ -4,9 +4,10 @@ use Rattle.pcef_renewal_lines.proofs.reading.reads_as.Goals as goal
 
 pub returns-in-Ok : goal.returns-in-Ok
 returns-in-Ok c =
-    let read = c.in-Ok.ensures in
-    (λ yes. said c.args.text.now c.in-Ok.line c.args.command.now read.0 read.1 read.2 (c.is_line_of.ensures.0 yes),
-    λ says. c.is_line_of.ensures.1 (says_it c.args.text.now c.in-Ok.line c.args.command.now read.0 read.1 read.2 says))
+    let read = c.in-Ok.ensures in (
+      λ yes. said c.args.text.now c.in-Ok.line c.args.command.now read.0 read.1 read.2 (c.is_line_of.ensures.0 yes),
+      λ says. c.is_line_of.ensures.1 (says_it c.args.text.now c.in-Ok.line c.args.command.now read.0 read.1 read.2 says),
+    )
 
 pub returns-in-Err : goal.returns-in-Err
 returns-in-Err c =
