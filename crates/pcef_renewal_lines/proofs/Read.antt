@@ -1,5 +1,5 @@
 -- Whether a text reads as a command, from what was read of it.
-use Rattle.std.proofs.Common.{◌≡◌, ◌≢◌, ◌⊎◌, ◌↔◌, inl, inr, ℕ, Bool, List, Result, Ok, Err, IsTrue, false, refl, subst, sym, true}
+use Rattle.std.proofs.Common.{◌≡◌, ◌≢◌, ◌⊎◌, ◌↔◌, inl, inr, ℕ, Bool, List, Result, Ok, Err, IsTrue, false, subst, sym, true}
 use Rattle.pcef_line.specs.declared.fault.LineFault.{LineFault}
 use Rattle.pcef_line.specs.declared.fault.LineFault.TheVariants.{NoMemory}
 use Rattle.pcef_line.specs.declared.line.Line.{Line}

@@ -1,23 +1,24 @@
 -- Whether two sets of event triggers are the same.
 use Rattle.std.proofs.Common.{◌≡◌, ◌∙◌, ◌↔◌, Bool, IsTrue, ap, false, refl, subst, sym, true}
 use Rattle.std.specs.Prelude.{◌&&◌}
+use Rattle.std.proofs.lemmas.Bool.{false≢true}
 use Rattle.std.specs.Bool.{beq}
 use Rattle.pcef_model.specs.declared.command.Command.TheVariants.{Triggers}
 use Rattle.pcef_model.specs.declared.trigger.TriggerSet.{TriggerSet}
 
 same_flag : (a b : Bool) → IsTrue (beq a b) → a ≡ b
 same_flag true true is = refl
-same_flag true false is = absurd is
-same_flag false true is = absurd is
+same_flag true false is = absurd (false≢true is)
+same_flag false true is = absurd (false≢true is)
 same_flag false false is = refl
 
 first_of_both : (a b : Bool) → IsTrue (a && b) → IsTrue a
-first_of_both true b is = tt
-first_of_both false b is = absurd is
+first_of_both true b is = refl
+first_of_both false b is = absurd (false≢true is)
 
 second_of_both : (a b : Bool) → IsTrue (a && b) → IsTrue b
 second_of_both true b is = is
-second_of_both false b is = absurd is
+second_of_both false b is = absurd (false≢true is)
 
 own_flag : (a : Bool) → beq a a ≡ true
 own_flag true = refl
@@ -48,7 +49,7 @@ passes x = rw (own_flag x.usage_report, own_flag x.rat_change, own_flag x.plmn_c
 pub sets_agree : (x y : TriggerSet) (b : Bool) → b ≡ tests x y → IsTrue b ↔ (x ≡ y)
 sets_agree x y b is = (
   λ yes. same_set x y (subst IsTrue is yes),
-  λ same. subst IsTrue (sym (is ∙ ap (λ (z : TriggerSet). tests z y) same ∙ passes y)) tt,
+  λ same. subst IsTrue (sym (is ∙ ap (λ (z : TriggerSet). tests z y) same ∙ passes y)) refl,
 )
 
 pub the_set : (x y : TriggerSet) → Triggers x ≡ Triggers y → x ≡ y

@@ -1,9 +1,11 @@
 -- Rules as lines write them: a JSON object (RFC 8259), whose fields come in the order in which a line's are checked.
 use Rattle.std.specs.Prelude.{ℕ, ◌++◌, List, [], Option, Some, None, Bool, codes, decimal, if◌then◌else◌}
 use Rattle.json.specs.Print.{quoted}
+use Rattle.pcef_filter.specs.declared.filter.Filter.{Filter}
 use Rattle.pcef_rule.specs.declared.gate.Gate.{Gate}
 use Rattle.pcef_rule.specs.declared.gate.Gate.TheVariants.{EnabledUplink, EnabledDownlink, Enabled, Disabled}
 use Rattle.pcef_rule.specs.declared.quantity.Rates.{Rates}
+use Rattle.pcef_rule.specs.declared.rule.Properties.{Properties}
 use Rattle.pcef_rule.specs.Definition.{Definition}
 use Rattle.pcef_rule.specs.Priority.{Priority}
 use Rattle.pcef_renewal_lines.specs.Filters.{filters_text}
@@ -33,9 +35,16 @@ abbrev pub key_part : Option (List ℕ) → List ℕ
 key_part None = []
 key_part (Some key) = codes ",\"key\":" ++ quoted key
 
+-- its fields up to the filters, those of its QoS, and the others
+abbrev pub name_part : Properties → List Filter → List ℕ
+name_part p filters =
+    codes "{\"name\":" ++ (quoted p.name ++ (codes ",\"precedence\":" ++ (decimal p.precedence ++ (codes ",\"filters\":[" ++ (filters_text filters ++ codes "]")))))
+
+abbrev pub qos_part : Properties → List ℕ
+qos_part p = codes ",\"qci\":" ++ (decimal p.qos.qci.0 ++ (codes ",\"arp\":" ++ (arp_text p.qos.arp ++ rates_part p.rates)))
+
+abbrev pub gate_part : Properties → List ℕ
+gate_part p = codes ",\"gate\":\"" ++ (gate_word p.gate ++ (codes "\"" ++ (key_part p.key ++ codes "}")))
+
 unfoldable pub rule_text : Definition → List ℕ
-rule_text rule =
-    codes "{\"name\":" ++ (quoted rule.properties.name ++ (codes ",\"precedence\":" ++ (decimal rule.properties.precedence
-    ++ (codes ",\"filters\":[" ++ (filters_text rule.filters ++ (codes "],\"qci\":" ++ (decimal rule.properties.qos.qci.0
-    ++ (codes ",\"arp\":" ++ (arp_text rule.properties.qos.arp ++ (rates_part rule.properties.rates
-    ++ (codes ",\"gate\":\"" ++ (gate_word rule.properties.gate ++ (codes "\"" ++ (key_part rule.properties.key ++ codes "}"))))))))))))))
+rule_text rule = name_part rule.properties rule.filters ++ (qos_part rule.properties ++ gate_part rule.properties)

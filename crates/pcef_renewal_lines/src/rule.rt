@@ -2,10 +2,11 @@
 
 ghost use Rattle.std.specs.Prelude.{◌≡◌, IfOk, string_bytes};
 ghost use Rattle.json.specs.Print.{quoted};
-ghost use Rattle.pcef_renewal_lines.specs.Rules.{arp_text, gate_word, key_part, rates_part, rule_text};
+ghost use Rattle.pcef_renewal_lines.specs.Rules.{arp_text, gate_part, gate_word, key_part, name_part, qos_part, rates_part, rule_text};
 
 use crate::filter::filters_text;
-use pcef_rule::{Arp, Gate, KeyName, Rates, Rule};
+use pcef_filter::Filter;
+use pcef_rule::{Arp, Gate, KeyName, Properties, Rates, Rule};
 use serde_json::Value;
 use std::alloc::{AllocError, Global};
 
@@ -62,21 +63,46 @@ fn key_part(alloc: Global, key: &Option<KeyName>) -> Result<String, AllocError>
     }
 }
 
+/// The fields of a rule up to its filters.
+fn name_part(
+    alloc: Global,
+    properties: &Properties,
+    filters: &[Filter],
+) -> Result<String, AllocError>
+    ensures { IfOk result (λ text. string_bytes text ≡ name_part properties.now filters.now) }
+{
+    let name = quoted(alloc, properties.name.as_str())?;
+    let precedence = properties.precedence;
+    let filters = filters_text(alloc, filters)?;
+    format!(in alloc; "{{\"name\":{name},\"precedence\":{precedence},\"filters\":[{filters}]")
+}
+
+/// The QoS of a rule, with its rates.
+fn qos_part(alloc: Global, properties: &Properties) -> Result<String, AllocError>
+    ensures { IfOk result (λ text. string_bytes text ≡ qos_part properties.now) }
+{
+    let qci = properties.qos.qci.0;
+    let arp = arp_text(alloc, properties.qos.arp)?;
+    let rates = rates_part(alloc, properties.rates)?;
+    format!(in alloc; ",\"qci\":{qci},\"arp\":{arp}{rates}")
+}
+
+/// The fields of a rule from its gate on.
+fn gate_part(alloc: Global, properties: &Properties) -> Result<String, AllocError>
+    ensures { IfOk result (λ text. string_bytes text ≡ gate_part properties.now) }
+{
+    let gate = gate_word(properties.gate);
+    let key = key_part(alloc, &properties.key)?;
+    format!(in alloc; ",\"gate\":\"{gate}\"{key}}}")
+}
+
 /// A rule as a JSON object.
-#[tactic(auto, unfolding(crate::specs::Rules::rule_text))]
 pub(crate) fn rule_text(alloc: Global, rule: &Rule) -> Result<String, AllocError>
     ensures { IfOk result (λ text. string_bytes text ≡ rule_text rule.now) }
 {
     let properties = rule.properties();
-    let name = quoted(alloc, properties.name.as_str())?;
-    let precedence = properties.precedence;
-    let filters = filters_text(alloc, rule.filters())?;
-    let qci = properties.qos.qci.0;
-    let arp = arp_text(alloc, properties.qos.arp)?;
-    let rates = rates_part(alloc, properties.rates)?;
-    let gate = gate_word(properties.gate);
-    let key = key_part(alloc, &properties.key)?;
-    format!(in alloc;
-        "{{\"name\":{name},\"precedence\":{precedence},\"filters\":[{filters}],\"qci\":{qci},\"arp\":{arp}{rates},\"gate\":\"{gate}\"{key}}}"
-    )
+    let name = name_part(alloc, properties, rule.filters())?;
+    let qos = qos_part(alloc, properties)?;
+    let gate = gate_part(alloc, properties)?;
+    format!(in alloc; "{name}{qos}{gate}")
 }

@@ -9,10 +9,10 @@ use Rattle.pcef_script.specs.ScriptAnswers.{Answers, fault_count}
 use Rattle.pcef_sessions.specs.declared.asking.Asking.{Asking}
 use Rattle.pcef_sessions.specs.declared.asking.Asking.TheVariants as asking
 use Rattle.pcef_sessions.specs.Asked.{asked_of}
-use Rattle.pcef_sessions.specs.Between.{IsOfScript, OpenSessionsAreScripts, RenewedSessionsAreScripts, WholeSessionsAreScripts, faults_of, texts_of}
+use Rattle.pcef_sessions.specs.Between.{IsOfScript, LinesChangeNothing, OpenSessionsAreScripts, RenewedSessionsAreScripts, WholeSessionsAreScripts, faults_of, texts_of}
 use Rattle.pcef_sessions.specs.Sayings.{Said}
 use Rattle.pcef_sessions.specs.Served.{Under}
-use Rattle.pcef_sessions.specs.Under.{Session, InSession, UnderBy, done_text, opened, renewal_text, renewed, with_address}
+use Rattle.pcef_sessions.specs.Under.{Session, InSession, ShowsLines, UnderBy, WithoutSession, done_text, opened, renewal_text, renewed, with_address}
 
 pub open_script : OpenSessionsAreScripts
 open_script p s [] saids after all h = (s.standing, (ap texts_of h.0, ap faults_of h.0, refl), h.1)
@@ -23,6 +23,14 @@ open_script p s (line ∷ lines) saids after all h =
     let next : Session = record s { standing = now.0 } in
     let rest = open_script p next lines h.1 after (All-tail IsOfScript line lines all) (subst (λ o. Under p o lines h.1 after) now.2 h.4) in
     (rest.0, (first.text, texts_of h.1, first.at_fault, faults_of h.1, now.0, now.1, rest.1, ap texts_of h.5, ap faults_of h.5), rest.2)
+
+pub lines_stay : LinesChangeNothing
+lines_stay p None line text at_fault after shows h =
+    let now : WithoutSession p asking.Lines text at_fault after = subst (λ k. UnderBy p None k line text at_fault after) shows h in
+    now.2
+lines_stay p (Some s) line text at_fault after shows h =
+    let now : ShowsLines s text at_fault after = subst (λ k. UnderBy p (Some s) k line text at_fault after) shows h in
+    now.2
 
 pub renewed_script : RenewedSessionsAreScripts
 renewed_script p s first lines saids after renews all h =

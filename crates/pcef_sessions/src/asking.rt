@@ -12,7 +12,7 @@ use std::alloc::{AllocError, Global};
 use std::str;
 use thiserror::Error;
 
-/// Why a line that opens a session, renews one or ends one isn't right.
+/// Why a line that opens a session, renews one, shows its lines or ends one isn't right.
 #[derive(Clone, Copy, Debug, PartialEq, Eq, Error)]
 pub enum AskingFault {
     /// It has a field that the word doesn't have.

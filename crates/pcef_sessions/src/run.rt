@@ -53,9 +53,9 @@ fn serve_all<R: Read, W: Write>(
 
 /// Answers each line of many sessions of a profile, and returns whether a line was at fault.
 ///
-/// A line is a session's name, one space, and a line of a script, or one that opens the session, renews it or ends it. A
-/// line feed ends a line, and so does the end of input; there is no answer to a line of spaces, tabs and CR alone. Of a line no
-/// more than 262,210 octets are kept. Reads in blocks of at most 8,192 octets, and writes each answer when its line has
+/// A line is a session's name, one space, and a line of a script, or one that opens the session, renews it, shows its
+/// lines or ends it. A line feed ends a line, and so does the end of input; there is no answer to a line of spaces, tabs
+/// and CR alone. Of a line no more than 262,210 octets are kept. Reads in blocks of at most 8,192 octets, and writes each answer when its line has
 /// ended. Flushes the writer after each block in which a line ended, so that whoever waits for an answer has it before
 /// more is read; the caller flushes at the end. Takes memory for a line, an answer, and what the sessions keep.
 ///

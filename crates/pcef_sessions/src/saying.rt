@@ -44,7 +44,7 @@ fn text_of(alloc: Global, fault: AskingFault) -> Result<String, AllocError>
     }
 }
 
-/// The answer to a line at fault that opens a session, renews one or ends one.
+/// The answer to a line at fault that opens a session, renews one, shows its lines or ends one.
 pub(crate) fn says_fault(alloc: Global, fault: AskingFault) -> Result<LineAnswer, AllocError>
     ensures text { IfOk result (λ a. string_bytes a.text ≡ asking_fault_text fault) }
     ensures fault { IfOk result (λ a. a.is_fault ≡ true) }

@@ -259,7 +259,8 @@ impl Sessions {
         self.ask(name, asking)
     }
 
-    /// The answer to a line of a script at fault, which is for the sessions if it opens one, renews one or ends one.
+    /// The answer to a line of a script at fault, which is for the sessions if it opens one, renews one, shows its lines or
+    /// ends one.
     fn ask_instead(
         &mut self,
         name: &SessionName,
@@ -296,9 +297,9 @@ impl Sessions {
     }
 
     /// Does what a line asks for: a session's name, one space, and a line of a script, or one that opens the session,
-    /// renews it or ends it. Nothing is done for a line without name, space or rest. Takes memory for the answer and for what a
-    /// session keeps. When out of memory, what stands under the name is as before, or as after the line; the other
-    /// names keep what they have.
+    /// renews it, shows its lines or ends it. Nothing is done for a line without name, space or rest. Takes memory for the
+    /// answer and for what a session keeps. When out of memory, what stands under the name is as before, or as after the
+    /// line; the other names keep what they have.
     pub fn answer(&mut self, line: &[u8]) -> Result<NamedAnswer, AllocError>
         ensures answer { IfOk result (λ t. AnswersNamedLine self.old line.now t self.new) }
         ensures lacks { OnErr result (LacksForNamedLine self.old line.now self.new) }

@@ -1,4 +1,4 @@
-use Rattle.pcef_sessions.proofs.Scripts.{open_script, renewed_script, whole_script}
+use Rattle.pcef_sessions.proofs.Scripts.{lines_stay, open_script, renewed_script, whole_script}
 use Rattle.pcef_sessions.proofs.laws.sessions_are_scripts.Goals as goal
 
 pub returns-clause-opened : goal.returns-clause-opened
@@ -9,3 +9,6 @@ returns-clause-renewed c = renewed_script
 
 pub returns-clause-whole : goal.returns-clause-whole
 returns-clause-whole c = whole_script
+
+pub returns-clause-lines : goal.returns-clause-lines
+returns-clause-lines c = lines_stay
