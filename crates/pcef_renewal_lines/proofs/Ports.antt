@@ -1,5 +1,5 @@
 -- Ports behind a place.
-use Rattle.std.proofs.Common.{◌≡◌, ℕ, List, [], ◌∷◌, ◌++◌, Bool, false, true, codes, length, refl}
+use Rattle.std.proofs.Common.{◌≡◌, List, [], ◌∷◌, ◌++◌, Bool, false, codes, length, refl}
 use Rattle.std.specs.Prelude.{◌==◌}
 use Rattle.std.specs.List.{join_by}
 use Rattle.pcef_filter.specs.declared.filter.PortRange.{PortRange}
