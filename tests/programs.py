@@ -1,5 +1,6 @@
 """What the tests of the built programs share: where the programs are, and how one is run."""
 import os
+import pty
 import subprocess
 import tempfile
 import unittest
@@ -60,6 +61,21 @@ class ProgramTest(unittest.TestCase):
             timeout=60,
         )
         return Ended(ran.returncode, ran.stdout, ran.stderr)
+
+    def shown_on_a_terminal(self, program, words, given):
+        """What the program says where standard error is a terminal, on a file of the folder as its standard input."""
+        master, terminal = pty.openpty()
+        with open(os.path.join(self.room, given), "rb") as file, open(terminal, "wb") as shown:
+            subprocess.run(
+                [program, *words], stdin=file, stdout=subprocess.DEVNULL, stderr=shown, cwd=self.room, timeout=60
+            )
+        try:
+            return os.read(master, 10000).decode()
+        except OSError:
+            # Nothing was said.
+            return ""
+        finally:
+            os.close(master)
 
     def ends(self, program, words, given="", status=0, wrote="", said=""):
         """Expects that the program ends so."""

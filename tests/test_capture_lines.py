@@ -1,6 +1,5 @@
 """The lines that `pcef_capture` writes: of packets, by workers in turn, by its words, and while packets come."""
 import os
-import pty
 import select
 import subprocess
 
@@ -151,21 +150,12 @@ class Streams(CaptureTest):
 
     def test_progress_is_shown_on_a_terminal_and_nowhere_else(self):
         self.write("a.pcap", capture_of(*[DOWN] * 2000))
-        for words, due in (["a.pcap"], [f"{part} %\r" for part in (9, 18, 27, 37, 46, 55, 65, 74, 83, 93, 100)]), (["-"], []):
+        parts = "".join(f"{part} %\r" for part in (9, 18, 27, 37, 46, 55, 65, 74, 83, 93, 100))
+        # The last part is taken away before the counts are said.
+        for words, due in (["a.pcap"], f"{parts}     \r"), (["-"], ""):
             with self.subTest(words=words):
-                master, terminal = pty.openpty()
-                with open(os.path.join(self.room, "a.pcap"), "rb") as given, open(terminal, "wb") as shown:
-                    subprocess.run(
-                        [PCEF_CAPTURE, "--ue", UE, *words],
-                        stdin=given,
-                        stdout=subprocess.DEVNULL,
-                        stderr=shown,
-                        cwd=self.room,
-                        timeout=60,
-                    )
-                came = os.read(master, 10000).decode()
-                os.close(master)
-                self.assertEqual(came, "".join(due) + counted(taken=2000).replace("\n", "\r\n"))
+                came = self.shown_on_a_terminal(PCEF_CAPTURE, ["--ue", UE, *words], "a.pcap")
+                self.assertEqual(came, due + counted(taken=2000).replace("\n", "\r\n"))
 
     def test_a_full_disk_is_a_fault(self):
         told = lines("write fault", said("Standard output: No space left on device (os error 28)"))

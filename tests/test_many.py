@@ -98,6 +98,21 @@ class Many(ProgramTest):
             self.assertEqual(came.status, status)
         return came.wrote.decode()
 
+    def test_progress_over_a_file_is_shown_on_a_terminal(self):
+        self.write("lines", "".join(f"s{number} {OPEN}\n" for number in range(20000)))
+        for threads in "1", "3":
+            with self.subTest(threads=threads):
+                came = self.shown_on_a_terminal(PCEF_MANY, ["--threads", threads, "profile.toml"], "lines")
+                parts = [int(part) for part in re.findall(r"(\d+) %\r", came)]
+                self.assertEqual((parts, parts[-1]), (sorted(set(parts)), 100))
+                self.assertEqual(came, "".join(f"{part} %\r" for part in parts) + "     \r")
+
+    def test_no_progress_is_shown_over_a_pipe(self):
+        self.write("none", "")
+        self.assertEqual(self.shown_on_a_terminal(PCEF_MANY, ["profile.toml"], "none"), "")
+        came = self.run_on(PCEF_MANY, ["profile.toml"], f"s {OPEN}\n")
+        self.assertEqual((came.status, came.said), (0, b""))
+
     def test_a_session_comes_and_goes(self):
         steps = [
             (f"a {SHOW}", f"a {NO_SESSION}"),

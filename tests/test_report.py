@@ -671,6 +671,15 @@ class Words(ReportTest):
 
 
 class Pages(ReportTest):
+    def test_progress_over_large_files_of_many_sessions_is_shown_on_a_terminal(self):
+        blank = (b" " * 1023 + b"\n") * 33000
+        self.write("lines", b's {"do":"open"}\n' + blank)
+        self.write("answers", 's {"ok":true}\n')
+        parts = "".join(f"{part} %\r" for part in range(1, 101))
+        words = ["--session", "s", "--format", "prometheus", "lines", "answers"]
+        self.assertEqual(self.shown_on_a_terminal(PCEF_REPORT, words, "answers"), f"{parts}     \r")
+        self.assertEqual(self.run_on(PCEF_REPORT, words).said, b"")
+
     def test_a_long_session_has_a_small_page(self):
         packets = "".join(take(DNS_ANSWER) + "\n" + FLUSH + "\n" for _ in range(20000))
         report = '{"cause":"Threshold","key":"k%d","octets":7}'
