@@ -34,11 +34,12 @@ def opened(address):
 
 
 class Sampler:
-    """Random lines of a session, and beside each rule what is to be shown of it."""
+    """Random lines of a session, and what is to be shown of its rules and subscriptions."""
 
     def __init__(self, seed):
         self.random = random.Random(seed)
         self.rules = {}
+        self.events = []
 
     def pick(self, *choices):
         return self.random.choice(choices)
@@ -121,7 +122,8 @@ class Sampler:
             level = {"level": "session"} if key == "session-key" else self.pick({}, {"level": "rule"})
             return line(do="monitor", key=key, grant=grant, **level)
         if kind < 13:
-            return line(do="triggers", events=self.random.sample(EVENTS, self.random.randint(0, 5)))
+            self.events = self.random.sample(EVENTS, self.random.randint(0, 5))
+            return line(do="triggers", events=self.events)
         if kind < 14:
             return line(do="remove", name=self.pick("r1", "r2", "pre-dns"))
         if kind < 15:
@@ -250,6 +252,8 @@ class RenewalLines(ProgramTest):
             self.assertEqual(first, second)
             of_session = json.loads(first)["lines"]
             again += [f"t{n} {line(**one)}" for one in of_session] + [f"t{n} {SHOW}", f"t{n} {LINES}"]
+            subscribed = [one["events"] for one in of_session if one["do"] == "triggers"]
+            self.assertEqual(subscribed, [sorted(sampler.events, key=EVENTS.index)] if sampler.events else [])
             for one in of_session[1:]:
                 found[one["do"]] += 1
                 if one["do"] == "install":
