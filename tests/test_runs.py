@@ -129,7 +129,7 @@ class Runs(ProgramTest):
                 self.run_ends(workers, [WEB, "", FIRST, unfit, "x"], status=1, said=said)
 
     def test_a_session_that_is_closed_before_its_packets(self):
-        said = lines("run fault 5", "A worker wasn't attached: the session was closed before the first packet.")
+        said = lines("run fault 5", "pcef: a worker wasn't attached: the session was closed before the first packet")
         for given in [WEB, MONITOR, CLOSE, FIRST, SECOND], [WEB, MONITOR, "", "", CLOSE]:
             with self.subTest(given=given):
                 self.run_ends(2, given, status=4, said=said)
