@@ -50,7 +50,7 @@ kept_part v test kept = record {
   within_down = omega (arith, part_down test v.bound, kept.within_down);
 }
 
--- ---- a rule is with_bound
+-- ---- a rule is put
 -- no refusal: no condition holds
 passed : (a b c d e f : Bool) →
     first_of ((a, UnknownQci) ∷ (b, RatesMissing) ∷ (c, RatesNotWanted) ∷ (d, TooManyBearers) ∷ (e, OverCapacityUp) ∷ (f, OverCapacityDown) ∷ []) ≡ None →
@@ -132,7 +132,7 @@ without_absent v name none = let same : without_bound name v.bound ≡ v.bound =
           | inr isnt ↦ rw isnt (ap (λ (rest : List Bound). b ∷ rest) (absent bound (rw isnt at none)))
         ]
 
--- ---- a rule is with_bound, as a method needs it
+-- ---- a rule is put, as a method needs it
 pub kept_put_at : (v w : Binding) (name : List ℕ) (q : Qos) (rates : Option Rates) (id : ℕ) → v ≡ w → IsBinding v → HasRoom name 64 w.bound →
     first_of (binding_refusals w (without_bound name w.bound) q rates) ≡ None → id_excluding w.default_qos w.bound (without_bound name w.bound) q ≡ Some id →
     IsBinding (with_rules v (with_bound (bound_at name q rates id) v.bound))

@@ -1,4 +1,4 @@
--- Where a rule is with_bound.
+-- Where a rule is put.
 use Rattle.std.proofs.Common.{◌≡◌, ◌≤◌, ◌<◌, ℕ, zero, suc, Bool, true, false, List, [], ◌∷◌, ◌++◌, refl, ap, arith, inl, inr, length, get_or, slice_set, Some, None}
 use Rattle.std.specs.Prelude.{nat_lt, position}
 use Rattle.std.specs.List.{list_any, position_or_len}

@@ -59,7 +59,7 @@ id_number (Some id) = Some id.0
 abbrev pub finds_no_id : Qos → List Bound → Qos → Bool
 finds_no_id default others q = not (has_pair (λ b. b.qos) default others q) && is_none (least_free (λ b. b.bearer.0) others)
 
--- the binding_refusals of a binding with this pair and these rates, beside the rules that stay
+-- the refusals of a binding with this pair and these rates, beside the rules that stay
 abbrev pub binding_refusals : Binding → List Bound → Qos → Option Rates → Conditions Refusal
 binding_refusals v others q rates =
     bind_refusals v.qcis v.capacity q rates (finds_no_id v.default_qos others q) (bound_up others) (bound_down others)
@@ -98,7 +98,7 @@ total_with v name rates = record {
 }
 
 -- ---- the binding after a step
--- a binding without_bound bound rules
+-- a binding without bound rules
 abbrev pub empty_binding : Qos → Sums → List (Option Kind) → Binding
 empty_binding default_qos capacity qcis =
     record { default_qos = default_qos; capacity = capacity; qcis = qcis; bound = [] }
@@ -120,7 +120,7 @@ abbrev pub left_by : List ℕ → List Bound → Option Released
 left_by name bound =
     option_map (λ b. record { bearer = b.bearer; ended = not (is_present b.bearer.0 (without_bound name bound)) }) (find (is_bound_as name) bound)
 
--- the QCI and ARP of a bearer: those of the rules on it, which all have the same; the default bearer's without_bound one, too
+-- the QCI and ARP of a bearer: those of the rules on it, which all have the same; the default bearer's without one, too
 abbrev pub qos_on : ℕ → Binding → Option Qos
 qos_on id v = if id == default_id then Some v.default_qos else option_map (λ b. b.qos) (find (λ b. b.bearer.0 == id) v.bound)
 

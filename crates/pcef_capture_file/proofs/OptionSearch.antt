@@ -30,7 +30,7 @@ option_shorter e octets o is =
           ]
     ]
 
--- any number_by of options that the octets can't hold serves
+-- any number of options that the octets can't hold serves
 enough : (m n : ℕ) (e : Endianness) (code : ℕ) (octets : List ℕ) → length octets < m → length octets < n → value_among m e code octets ≡ value_among n e code octets
 unfolding value_among
 enough zero n e code octets h k = absurd (omega arith)

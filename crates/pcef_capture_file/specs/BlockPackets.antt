@@ -10,7 +10,7 @@ use Rattle.pcef_capture_file.specs.declared.fault.CaptureFault.TheVariants as fa
 use Rattle.pcef_capture_file.specs.declared.packet.Stated.{Stated}
 use Rattle.pcef_capture_file.specs.declared.section.Interface.{Interface}
 
--- the interface of a number_by, from 0 on in the order of the descriptions
+-- the interface of a number, from 0 on in the order of the descriptions
 unfoldable pub interface_at : List Interface → ℕ → Result Interface CaptureFault
 interface_at interfaces n = or_fault fault.UnknownInterface (slice_get interfaces n)
 

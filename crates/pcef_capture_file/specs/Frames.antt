@@ -6,7 +6,7 @@ use Rattle.pcef_capture_file.specs.declared.endianness.Endianness.TheVariants.{B
 use Rattle.pcef_capture_file.specs.declared.link.Link.{Link}
 use Rattle.pcef_capture_file.specs.declared.link.Link.TheVariants.{Null, Ethernet, Raw, Loop, LinuxCooked, LinuxCooked2}
 
--- a number_by of two octets stands at a place
+-- a number of two octets stands at a place
 unfoldable pub is_type_at : List ℕ → ℕ → ℕ → Bool
 is_type_at octets place n = nat_le (place + 2) (length octets) && (number_by Big octets place 2 == n)
 

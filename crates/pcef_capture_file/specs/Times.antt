@@ -13,7 +13,7 @@ use Rattle.pcef_capture_file.specs.declared.time.TimeUnit.{TimeUnit}
 use Rattle.pcef_capture_file.specs.declared.time.TimeUnit.TheVariants.{Decimal, Binary}
 
 -- ---- classic files (draft-ietf-opsawg-pcap, clause 5)
--- seconds, and a number_by of microseconds or nanoseconds; of this number_by a second or more counts as seconds (own choice)
+-- seconds, and a number of microseconds or nanoseconds; of this number a second or more counts as seconds (own choice)
 abbrev pub classic_time : TimeScale → ℕ → ℕ → Time
 classic_time Microseconds seconds fraction =
     record { seconds = seconds + fraction / 10 ^ 6; nanoseconds = fraction % 10 ^ 6 * 1000 }
@@ -25,7 +25,7 @@ classic_time Nanoseconds seconds fraction =
 abbrev pub unit_of_octet : ℕ → TimeUnit
 unit_of_octet octet = if nat_lt octet 128 then Decimal octet else Binary (octet - 128)
 
--- a number_by of 64 bits
+-- a number of 64 bits
 abbrev pub fitting : ℕ → Option ℕ
 fitting n = if nat_lt n (2 ^ 64) then Some n else None
 
@@ -34,7 +34,7 @@ abbrev pub per_second : TimeUnit → Option ℕ
 per_second (Decimal exponent) = fitting (10 ^ exponent)
 per_second (Binary exponent) = fitting (2 ^ exponent)
 
--- if_tsoffset: a signed number_by of 64 bits
+-- if_tsoffset: a signed number of 64 bits
 abbrev pub offset_of_bits : ℕ → TimeOffset
 offset_of_bits bits = if nat_lt bits (2 ^ 63) then Later bits else Earlier (2 ^ 64 - bits)
 

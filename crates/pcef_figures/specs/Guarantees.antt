@@ -16,7 +16,7 @@ pub record RuleFigure : Type 0 where
   pub up : ℕ
   pub down : ℕ
 
--- the rules without_rule those of a name
+-- the rules without those of a name
 abbrev pub without_rule : List ℕ → List RuleFigure → List RuleFigure
 without_rule name rules = filter (λ r. not (bytes_eq r.name name)) rules
 
@@ -51,7 +51,7 @@ abbrev pub with_activated : List RuleFigure → List ℕ → Option ℕ → List
 with_activated rules name None = rules
 with_activated rules name (Some bearer) = with_rule rules (record { name = name; bearer = bearer; up = 0; down = 0 })
 
--- the rules without_rule those on a bearer
+-- the rules without those on a bearer
 abbrev pub without_rules_on : List RuleFigure → Option ℕ → List RuleFigure
 without_rules_on rules None = rules
 without_rules_on rules (Some bearer) = filter (λ r. not (r.bearer == bearer)) rules

@@ -1,4 +1,4 @@
--- From the first line that source_fits to the first entry that source_fits.
+-- From the first line that fits to the first entry that fits.
 use Rattle.std.proofs.Common.{◌≡◌, ◌+◌, ◌++◌, ◌∙◌, ℕ, suc, Bool, true, false, Option, Some, None, List, [], ◌∷◌, All, Bor, find, map, refl, subst, sym, ap, arith, inl, inr}
 use Rattle.std.specs.Prelude.{IfSome, slice_get}
 use Rattle.std.specs.List.{list_any}
@@ -60,7 +60,7 @@ entry_fits offers ue h e = source_fits offers ue h e.source
 abbrev pub sources_of : List TableEntry → List Source
 sources_of es = map (λ e. e.source) es
 
--- where no line source_fits, no entry does
+-- where no line fits, no entry does
 pub no_entry : (offers : List Offer) (ue : Addr) (h : Header) (k : ℕ) (es : List TableEntry) → place_of (find (line_fits offers ue h) (lines_from k (sources_of es))) ≡ None → find (entry_fits offers ue h) es ≡ None
 no_entry offers ue h k [] none = refl
 no_entry offers ue h k (e ∷ es) none =
@@ -72,7 +72,7 @@ no_entry offers ue h k (e ∷ es) none =
           ∙ no_entry offers ue h (k + 1) es (sym (ap place_of (source_none offers ue h k e.source rest fails)) ∙ none)
     ]
 
--- the place of the first line that source_fits is that of the first entry that does
+-- the place of the first line that fits is that of the first entry that does
 pub the_entry : (offers : List Offer) (ue : Addr) (h : Header) (k n : ℕ) (es : List TableEntry) → place_of (find (line_fits offers ue h) (lines_from k (sources_of es))) ≡ Some n
     → (i : ℕ) × (e : TableEntry) × (n ≡ k + i) × (slice_get es i ≡ Some e) × (find (entry_fits offers ue h) es ≡ Some e)
 the_entry offers ue h k n [] some = absurd (cc)
@@ -88,7 +88,7 @@ the_entry offers ue h k n (e ∷ es) some =
           (suc later.0, later.1, omega (arith, later.2), later.3, cond-false (source_fits offers ue h e.source) (Some e) (find (entry_fits offers ue h) es) fails ∙ later.4))
     ]
 
--- the entry at the place is the first that source_fits
+-- the entry at the place is the first that fits
 pub entry_at : (offers : List Offer) (ue : Addr) (h : Header) (n : ℕ) (es : List TableEntry) → place_of (find (line_fits offers ue h) (lines_from 0 (sources_of es))) ≡ Some n
     → slice_get es n ≡ find (entry_fits offers ue h) es
 entry_at offers ue h n es some =

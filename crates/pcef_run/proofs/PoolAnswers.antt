@@ -1,4 +1,4 @@
--- AnswersEach to orders, one after the other.
+-- Answers to orders, one after the other.
 use Rattle.std.proofs.Common.{◌≡◌, ◌∙◌, ◌⊎◌, ◌<◌, ℕ, List, [], ◌∷◌, ◌++◌, All, length, refl, sym, ap, append-nil, append_assoc, subst, inl, inr}
 use Rattle.std.specs.Prelude.{IfErr, OnOk, Option, Some, Result, Ok, Err}
 use Rattle.std.specs.Io.KnownBytes.{Appends, Keeps}

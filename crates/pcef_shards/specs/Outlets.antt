@@ -1,4 +1,4 @@
--- What was all_written by a way to a shared writer (own choice).
+-- What was written by a way to a shared writer (own choice).
 use Rattle.std.specs.Prelude.{ℕ, List, [], ◌∷◌, ◌++◌, Vec}
 use Rattle.std.specs.declared.alloc.Global.{Global}
 use Rattle.pcef_shards.specs.declared.outlet.Outlet.{Outlet}

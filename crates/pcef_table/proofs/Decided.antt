@@ -1,4 +1,4 @@
--- From the first entry that source_fits to the verdict.
+-- From the first entry that fits to the verdict.
 use Rattle.std.proofs.Common.{◌≡◌, ◌∙◌, ◌⊎◌, ℕ, List, [], Some, None, find, ap, inl, inr, refl, sym, subst, true, AllPairs, Contains}
 use Rattle.std.specs.Prelude.{Option, slice_get}
 use Rattle.std.specs.Option.{option_map, option_map_or}
@@ -22,7 +22,7 @@ use Rattle.pcef_table.specs.Verdicts.{IsDecisive, IsPlaced, IsVerdict, counted_s
 use Rattle.pcef_lists.proofs.Foremost.{found_is_foremost}
 use Rattle.pcef_lists.proofs.Found.{find_some}
 
--- the first entry that source_fits is decisive
+-- the first entry that fits is decisive
 first_is_decisive : (offers : List Offer) (entries : List TableEntry) (ue : Addr) (header : Header) (e : TableEntry) (p : Properties) → AllPairs (GoesBefore offers) entries → find (λ (f : TableEntry). source_fits offers ue header f.source) entries ≡ Some e → properties_of offers e.source ≡ Some p → IsDecisive offers entries ue header e p
 first_is_decisive offers entries ue header e p ordered found known =
     let foremost = found_is_foremost (GoesBefore offers) (λ (f : TableEntry). source_fits offers ue header f.source) entries e ordered found in
@@ -33,7 +33,7 @@ first_is_decisive offers entries ue header e p ordered found known =
       first = foremost.first;
     }
 
--- where the first entry that source_fits is known, its gate decides
+-- where the first entry that fits is known, its gate decides
 pub gate_decides : (offers : List Offer) (entries : List TableEntry) (ue : Addr) (header : Header) (e : TableEntry) (p : Properties) (verdict : Verdict) → is_assigned (ue_side header) ue ≡ true → AllPairs (GoesBefore offers) entries → find (λ (f : TableEntry). source_fits offers ue header f.source) entries ≡ Some e → properties_of offers e.source ≡ Some p → verdict ≡ gate_verdict p e.bearer header.dir → IsVerdict offers entries ue header verdict
 gate_decides offers entries ue header e p verdict own ordered found known is =
     let decisive = first_is_decisive offers entries ue header e p ordered found known in
@@ -89,7 +89,7 @@ entry_is_placed offers entries e dir verdict place apart there at by =
     subst (λ v. IsPlaced offers entries v (Some place)) decided.2
     (cond_both (opens p.gate dir) (Passed p.name e.bearer) (Gated p.name) (λ v. IsPlaced offers entries v (Some place)) (λ _. is) (λ _. is))
 
--- where the first entry that source_fits is known, what its gate decides is the verdict
+-- where the first entry that fits is known, what its gate decides is the verdict
 pub entry_decides : (offers : List Offer) (entries : List TableEntry) (ue : Addr) (header : Header) (e : TableEntry) (verdict : Verdict) → is_assigned (ue_side header) ue ≡ true → AllPairs (GoesBefore offers) entries → find (λ (f : TableEntry). source_fits offers ue header f.source) entries ≡ Some e → verdict_by offers header.dir e ≡ Some verdict → IsVerdict offers entries ue header verdict
 entry_decides offers entries ue header e verdict own ordered found by =
     let decided = decided_by offers e header.dir verdict by in

@@ -1,4 +1,4 @@
--- The rule of an entry: its properties, its rank, and which packets it source_fits.
+-- The rule of an entry: its properties, its rank, and which packets it fits.
 use Rattle.std.specs.Prelude.{ℕ, ◌<◌, Bool, List, [], Option, Some, length, slice_get}
 use Rattle.std.specs.List.{list_any}
 use Rattle.std.specs.Option.{option_map, option_map_or}
@@ -40,7 +40,7 @@ name_of offers s = option_map_or (λ p. p.name) (properties_of offers s) []
 abbrev pub source_is_named : List Offer → List ℕ → Source → Bool
 source_is_named offers name s = bytes_eq (name_of offers s) name
 
--- a dynamic rule source_fits a packet that one of its filters matches, a predefined one a packet that its
+-- a dynamic rule fits a packet that one of its filters matches, a predefined one a packet that its
 -- shape detects (TS 23.203, clause 6.2.2.2)
 abbrev pub source_fits : List Offer → Addr → Header → Source → Bool
 source_fits offers ue header (Dynamic rule) = list_any (λ f. matches f ue header) rule.filters

@@ -41,18 +41,18 @@ StaysTable before after = (offers : List Offer) → IsTable offers before → Is
 abbrev pub has_other_name : List Offer → List ℕ → TableEntry → Bool
 has_other_name offers name e = not (source_is_named offers name e.source)
 
--- the entries without_entry the one of this name
+-- the entries without the one of this name
 abbrev pub without_entry : List Offer → List ℕ → List TableEntry → List TableEntry
 without_entry offers name entries = filter (has_other_name offers name) entries
 
--- the entries without_entry those whose rules a command takes away
+-- the entries without those whose rules a command takes away
 abbrev pub is_taken : List Offer → Command → TableEntry → Bool
 is_taken offers c e = takes_away c (name_of offers e.source) e.bearer.0
 
 abbrev pub without_taken : List Offer → Command → List TableEntry → List TableEntry
 without_taken offers c entries = filter (λ e. not (is_taken offers c e)) entries
 
--- the entries without_entry those on a bearer
+-- the entries without those on a bearer
 abbrev pub without_bearer : ℕ → List TableEntry → List TableEntry
 without_bearer id entries = filter (λ e. not (e.bearer.0 == id)) entries
 

@@ -16,7 +16,7 @@ use Rattle.pcef_model.specs.declared.verdict.Verdict.TheVariants.{Stray, Unmatch
 use Rattle.pcef_table.specs.Sources.{source_fits, source_is_named, properties_of}
 use Rattle.pcef_table.specs.Tables.{GoesBefore}
 
--- the one entry that source_fits and goes before every other entry that source_fits, and its rule's properties
+-- the one entry that fits and goes before every other entry that fits, and its rule's properties
 pub record IsDecisive (offers : List Offer) (entries : List TableEntry) (ue : Addr) (header : Header) (e : TableEntry) (p : Properties) : Type 0 where
   pub there : Contains entries e
   pub properties_are : properties_of offers e.source ≡ Some p
@@ -28,7 +28,7 @@ abbrev pub gate_verdict : Properties → BearerId → Dir → Verdict
 gate_verdict p bearer dir = if opens p.gate dir then Passed p.name bearer else Gated p.name
 
 -- a packet whose user equipment's side isn't the session's address is a stray (own choice); one that
--- no rule source_fits is unmatched, and the gateway discards it; else the decisive entry's gate decides
+-- no rule fits is unmatched, and the gateway discards it; else the decisive entry's gate decides
 abbrev pub IsVerdict : List Offer → List TableEntry → Addr → Header → Verdict → Type 0
 IsVerdict offers entries ue header Stray = is_assigned (ue_side header) ue ≡ false
 IsVerdict offers entries ue header Unmatched =

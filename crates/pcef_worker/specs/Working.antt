@@ -27,7 +27,7 @@ pub record JudgesPacket (p : Setting) (first : ℕ) (header : Header) (old new :
 abbrev pub flushed : WorkerModel → WorkerModel
 flushed w = record w { waiting = []; rows = w.rows ++ w.waiting }
 
--- what a worker that finished_hand_in hands in: its last rows were handed over as it left
+-- what a worker that finished hands in: its last rows were handed over as it left
 abbrev pub finished_hand_in : WorkerModel → HandedIn
 finished_hand_in w = record { worker = w.worker; items = w.rows ++ w.waiting; keeps = w.keeps; leaving = Finished (length w.waiting) }
 

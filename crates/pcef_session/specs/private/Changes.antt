@@ -49,7 +49,7 @@ still_active Close bound active = []
 still_active Terminate bound active = []
 still_active _ bound active = active
 
--- a rule that becomes active is with_bound among the others; else those stay that the command leaves
+-- a rule that becomes active is put among the others; else those stay that the command leaves
 abbrev pub active_after : Option Activation → Command → Binding → List NamedSource → List NamedSource
 active_after (Some x) c bound active = put_kept (x.properties.name, x.source) active
 active_after None c bound active = still_active c bound active
