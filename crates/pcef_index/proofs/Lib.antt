@@ -1,11 +1,12 @@
+pub mod Bits
+pub mod Blocks
+pub mod DigitLaws
 pub mod Fitting
 pub mod Growing
-pub mod MarkLaws
-pub mod Marked
-pub mod Passing
+pub mod Keeping
+pub mod Matching
+pub mod Numbering
 pub mod Places
 pub mod Placing
 pub mod Searching
-pub mod Sieving
 pub mod Stepping
-pub mod Within

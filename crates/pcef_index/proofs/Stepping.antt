@@ -1,92 +1,77 @@
--- The cells of ports in a low field.
-use Rattle.std.proofs.Common.{◌≡◌, ◌<◌, ◌≤◌, ◌+◌, ◌-◌, ◌/◌, ◌%◌, ◌&&◌, ◌==◌, ℕ, Bool, true, false, List, length, take, drop, cond, nat_le, not, refl, sym, subst, arith, inl, inr}
-use Rattle.std.proofs.lemmas.Bool.{cases_Bool, cases_lt, cond_both, eqb-true, le-leb, leb-true}
+-- How many steps are at or below a port.
+use Rattle.std.proofs.Common.{◌≡◌, ◌<◌, ◌≤◌, ◌+◌, ◌-◌, ◌*◌, ◌/◌, ◌^◌, ◌++◌, ◌∙◌, ◌==◌, ◌⊎◌, ◌&&◌, ◌||◌, ℕ, suc, Bool, true, false, List, [], ◌∷◌, length, take, drop, get_or, nat_le, nat_lt, refl, sym, subst, ap, arith, inl, inr}
+use Rattle.std.specs.Prelude.{if◌then◌else◌}
+use Rattle.std.proofs.lemmas.Bool.{and_parts, cases_Bool, cases_lt, cond_both, le-leb, leb-true, ltb-false, or_cases}
 use Rattle.std.proofs.lemmas.List.{length-take}
-use Rattle.std.proofs.lemmas.List.Sums.{count_by-le-length, sum_by-le-sum_by}
+use Rattle.std.proofs.Math.Seq.{take-suc}
 use Rattle.pcef_filter.specs.declared.filter.PortRange.{PortRange}
-use Rattle.pcef_index.specs.declared.cells.Cells.{Cells}
+use Rattle.pcef_filter.specs.Matching.{in_ranges}
 use Rattle.pcef_index.specs.declared.steps.Steps.{Steps}
-use Rattle.pcef_index.specs.private.Cells.{are_none, is_in, low_cell, low_cells, spans, whole}
-use Rattle.pcef_index.specs.private.Starts.{ArePlaced, cell_at, cell_of, count_to, start}
-use Rattle.pcef_index.proofs.Within.{in_whole, inside}
+use Rattle.pcef_index.specs.private.Rows.{step_cell}
+use Rattle.pcef_index.specs.private.Starts.{ArePlaced, cell_at, cell_of, count_up, start}
 
-not_empty : (l : List ℕ) → (length l == 0) ≡ false → 0 < length l
-not_empty l some =
-    elim (cases_lt 0 (length l)) [
-      | inl more ↦ more
-      | inr none ↦ (let zero : length l ≡ 0 = omega (arith, none) in absurd (cc (rw zero at some)))
-    ]
-
--- the cells of ports of a high octet lie before the steps of the next
-cell_at_le : {starts ports : List ℕ} → ArePlaced starts ports → (octet port : ℕ) → cell_at starts ports octet port ≤ start starts (octet + 1)
-cell_at_le {starts} {ports} placed octet port =
-    let from = start starts octet in
-    let to = start starts (octet + 1) in
-    let order = placed.ordered octet (octet + 1) (omega arith) in
-    let most = count_by-le-length (λ (step : ℕ). nat_le step port) (take (to - from) (drop from ports)) in
-    let few = length-take (to - from) (drop from ports) in
-    omega (arith, order, most, few)
-
-pub low_cell_small : (steps : Steps) (port : ℕ) → low_cell steps port < 256
-unfolding cell_of
-low_cell_small steps port =
-    cond_both (are_none steps) (port % 256) (cell_of steps.starts.items steps.ports.items port) (λ (n : ℕ). n < 256)
-    (λ _. omega arith)
-    (λ some.
-    (let placed = steps.placed (not_empty steps.starts.items some) in
-    let small = placed.small (port / 256 + 1) in
-    omega (arith, small, cell_at_le placed (port / 256) port)))
+pub count_le : (port : ℕ) (steps : List ℕ) → count_up port steps ≤ length steps
+count_le port [] = omega arith
+count_le port (step ∷ steps) =
+    let rest = count_le port steps in
+    cond_both (nat_le step port) (1 + count_up port steps) 0 (λ (n : ℕ). n ≤ suc (length steps)) (λ _. omega (arith, rest)) (λ _. omega arith)
 
 -- a step at or below a port is at or below each higher one
-one_more : (a b step : ℕ) → a ≤ b → cond (nat_le step a) 1 0 ≤ cond (nat_le step b) 1 0
-one_more a b step less =
+pub count_grows : (a b : ℕ) (steps : List ℕ) → a ≤ b → count_up a steps ≤ count_up b steps
+count_grows a b [] less = omega arith
+count_grows a b (step ∷ steps) less =
+    let rest = count_grows a b steps less in
     elim (cases_Bool (nat_le step a)) [
-      | inl below ↦ (let at_a = leb-true step a below in rw (below, le-leb step b (omega (arith, at_a))) (omega arith))
+      | inl below ↦ (let at_a = leb-true step a below in rw (below, le-leb step b (omega (arith, at_a))) (omega (arith, rest)))
       | inr above ↦ rw above (omega arith)
     ]
 
-count_grows : (steps : List ℕ) (a b : ℕ) → a ≤ b → count_to a steps ≤ count_to b steps
-count_grows steps a b less =
-    sum_by-le-sum_by (λ (step : ℕ). cond (nat_le step a) 1 0) (λ (step : ℕ). cond (nat_le step b) 1 0) steps (λ step. one_more a b step less)
+-- the cells of ports of a high octet lie before the steps of the next
+pub cell_at_le : {starts ports : List ℕ} → ArePlaced starts ports → (octet port : ℕ) → octet < 256 → cell_at starts ports octet port ≤ start starts (octet + 1)
+cell_at_le {starts} {ports} placed octet port small =
+    let from = start starts octet in
+    let to = start starts (octet + 1) in
+    let order = placed.ordered octet (octet + 1) (omega arith) (omega arith) in
+    let most = count_le port (take (to - from) (drop from ports)) in
+    let few = length-take (to - from) (drop from ports) in
+    omega (arith, order, most, few)
 
-cell_grows : {starts ports : List ℕ} → ArePlaced starts ports → (a b : ℕ) → a ≤ b → cell_of starts ports a ≤ cell_of starts ports b
-unfolding cell_of
-cell_grows {starts} {ports} placed a b less =
+placed_grows : {starts ports : List ℕ} → ArePlaced starts ports → (a b : ℕ) → a ≤ b → b < 2 ^ 16 → cell_at starts ports (a / 256) a ≤ cell_at starts ports (b / 256) b
+placed_grows {starts} {ports} placed a b less small =
     elim (cases_lt (a / 256) (b / 256)) [
       | inl lower ↦
-          (let one = cell_at_le placed (a / 256) a in
-          let next = placed.ordered (a / 256 + 1) (b / 256) (omega (arith, lower)) in
+          (let one = cell_at_le placed (a / 256) a (omega arith) in
+          let next = placed.ordered (a / 256 + 1) (b / 256) (omega (arith, lower)) (omega arith) in
           omega (arith, one, next))
       | inr not_lower ↦
           (let same : a / 256 ≡ b / 256 = omega (arith, not_lower, less) in
           let from = start starts (b / 256) in
-          let more = count_grows (take (start starts (b / 256 + 1) - from) (drop from ports)) a b less in
-          subst (λ (h : ℕ). cell_at starts ports h a ≤ cell_of starts ports b) (sym same) (omega (arith, more)))
+          let more = count_grows a b (take (start starts (b / 256 + 1) - from) (drop from ports)) less in
+          subst (λ (h : ℕ). cell_at starts ports h a ≤ cell_at starts ports (b / 256) b) (sym same) (omega (arith, more)))
     ]
 
--- ports of one high octet, and all where there are steps, are in the order of their cells
-low_cell_grows : (steps : Steps) (a b : ℕ) → a ≤ b → (are_none steps ≡ true → a / 256 ≡ b / 256) → low_cell steps a ≤ low_cell steps b
-low_cell_grows steps a b less one =
-    elim (cases_Bool (are_none steps)) [
-      | inl none ↦ (let same = one none in rw none (omega (arith, same)))
-      | inr some ↦ rw some (cell_grows (steps.placed (not_empty steps.starts.items some)) a b less)
+-- ports stand in the order of their cells
+pub cell_grows : (steps : Steps) (a b : ℕ) → a ≤ b → b < 2 ^ 16 → step_cell steps a ≤ step_cell steps b
+unfolding cell_of
+cell_grows steps a b less small =
+    elim (cases_Bool (nat_lt (length steps.starts.items) 257)) [
+      | inl none ↦ rw none (omega arith)
+      | inr some ↦ rw some (placed_grows (steps.placed (ltb-false (length steps.starts.items) 257 some)) a b less small)
     ]
 
-not_false : (b : Bool) → not b ≡ false → b ≡ true
-not_false true h = refl
-not_false false h = absurd (cc)
-
--- where the low field doesn't let all cells pass for a range, its high octets are one, or there are steps
-no_span : (steps : Steps) (r : PortRange) → (are_none steps && spans r) ≡ false → are_none steps ≡ true → r.first / 256 ≡ r.last / 256
-no_span steps r not_whole none = eqb-true (r.first / 256) (r.last / 256) (not_false ((r.first / 256) == (r.last / 256)) (rw none at not_whole))
-
--- the cell of a port is among those of a range that the port is in
-pub low_cell_in : (base : ℕ) (steps : Steps) (r : PortRange) (port : ℕ) → r.first ≤ port → port ≤ r.last → is_in (base + low_cell steps port) (low_cells base steps r) ≡ true
-low_cell_in base steps r port low high =
-    let some : Cells = record { first = base + low_cell steps r.first; last = base + low_cell steps r.last } in
-    cond_both (are_none steps && spans r) (whole base) some (λ (c : Cells). is_in (base + low_cell steps port) c ≡ true)
-    (λ _. in_whole base (low_cell steps port) (low_cell_small steps port))
-    (λ not_whole.
-    (let from = low_cell_grows steps r.first port low (λ none. let one = no_span steps r not_whole none in omega (arith, low, high, one)) in
-    let to = low_cell_grows steps port r.last high (λ none. let one = no_span steps r not_whole none in omega (arith, low, high, one)) in
-    inside (base + low_cell steps port) some (omega (arith, from)) (omega (arith, to))))
+-- a port that is in some ranges and one more is in these or in that one
+pub in_more : (ranges : List PortRange) (r : PortRange) (port : ℕ) → in_ranges (ranges ++ r ∷ []) port ≡ true
+    → (in_ranges ranges port ≡ true) ⊎ ((r.first ≤ port) × (port ≤ r.last))
+in_more [] r port is =
+    elim (or_cases (nat_le r.first port && nat_le port r.last) false is) [
+      | inl here ↦ (let both = and_parts (nat_le r.first port) (nat_le port r.last) here in inr (leb-true r.first port both.0, leb-true port r.last both.1))
+      | inr none ↦ absurd (cc)
+    ]
+in_more (s ∷ ss) r port is =
+    elim (cases_Bool (nat_le s.first port && nat_le port s.last)) [
+      | inl here ↦ inl (rw here refl)
+      | inr not_here ↦ elim (in_more ss r port (rw not_here at is)) [
+        | inl before ↦ inl (rw (not_here, before) refl)
+        | inr last ↦ inr last
+      ]
+    ]

@@ -1,6 +1,11 @@
-pub mod Cells
+pub mod AllSieves
+pub mod Digits
 pub mod Indexes
+pub mod Kinds
 pub mod Lines
-pub mod Marks
+pub mod Rows
 pub mod RuleFilters
+pub mod Sides
+pub mod Sieves
 pub mod Starts
+pub mod Words

@@ -6,10 +6,15 @@ ghost use Rattle.pcef_table.specs.Sources.{IsKnown, source_fits};
 ghost use Rattle.pcef_table.specs.Tables.{IsTable};
 ghost use Rattle.pcef_table.specs.Verdicts.{IsVerdict};
 ghost use Rattle.pcef_index.specs.Candidates.{is_candidate, places_from};
-ghost use Rattle.pcef_index.specs.private.Indexes.{IsSieveOf, Sieves};
+ghost use Rattle.pcef_index.specs.declared.lines.Line.{Line};
+ghost use Rattle.pcef_index.specs.private.AllSieves.{AreServed};
+ghost use Rattle.pcef_index.specs.private.Indexes.{IsSievedOf};
+ghost use Rattle.pcef_index.specs.private.Lines.{line_fits};
 
 use crate::candidates::is_candidate;
-use crate::sieve::{Sieve, first_place, sieve_of};
+use crate::kinds::kind_of;
+use crate::lines::{Line, lines_of};
+use crate::sieves::Sieves;
 use arrayvec::ArrayVec;
 use pcef_catalog::{Detects, Offers};
 use pcef_model::Verdict;
@@ -26,7 +31,7 @@ const MOST_SEARCHED: usize = 16;
 /// filters are searched one after the other, and have no sieve.
 pub struct Index {
     sources: Vec<Source>,
-    sieve: Option<Sieve>,
+    sieved: Option<Sieved>,
 }
 
 // Written out, so that an owner proves one call on each return path.
@@ -34,7 +39,7 @@ impl Drop for Index {
     fn drop(self) {
         let Index {
             sources: _,
-            sieve: _,
+            sieved: _,
         } = self;
     }
 }
@@ -48,7 +53,7 @@ impl Model for Index {
 
     ghost view = { λ i. i.sources.items };
 
-    ghost invariant = { λ i. IsIndexed i.sources.items i.sieve };
+    ghost invariant = { λ i. IsIndexed i.sources.items i.sieved };
 }
 
 /// Appends a place if its rule passes.
@@ -82,15 +87,32 @@ fn are_few(sources: &[Source]) -> bool {
     true
 }
 
-/// The sieve of some rules, if they have many filters.
-fn sieve_if_many(alloc: Global, sources: &[Source]) -> Result<Option<Sieve>, AllocError>
+/// The lines of some rules, with the sieves of all kinds of packets.
+#[derive(Drop)]
+struct Sieved {
+    lines: Vec<Line>,
+    sieves: Sieves,
+}
+
+/// The lines of some rules, with their sieves.
+fn sieved_of(alloc: Global, sources: &[Source]) -> Result<Sieved, AllocError>
     requires { length sources.now ≤ 64 }
-    ensures { IfOk result (Sieves sources.now) }
+    ensures { IfOk result (IsSievedOf sources.now) }
+{
+    let lines = lines_of(alloc, sources)?;
+    let sieves = Sieves::new(alloc, &lines)?;
+    Ok(Sieved { lines, sieves })
+}
+
+/// The lines of some rules with their sieves, if they have many filters.
+fn sieved_if_many(alloc: Global, sources: &[Source]) -> Result<Option<Sieved>, AllocError>
+    requires { length sources.now ≤ 64 }
+    ensures { IfOk result (λ s. IfSome s (IsSievedOf sources.now)) }
 {
     if are_few(sources) {
         Ok(None)
     } else {
-        Ok(Some(sieve_of(alloc, sources)?))
+        Ok(Some(sieved_of(alloc, sources)?))
     }
 }
 
@@ -99,33 +121,39 @@ pub(crate) fn index_of(alloc: Global, sources: Vec<Source>) -> Result<Index, All
     requires { length sources.items ≤ 64 }
     ensures { IfOk result (λ i. i ≡ sources.items) }
 {
-    let sieve = sieve_if_many(alloc, &sources)?;
-    Ok(Index { sources, sieve })
+    let sieved = sieved_if_many(alloc, &sources)?;
+    Ok(Index { sources, sieved })
 }
 
-/// The first entry of a table that fits, behind its place, by the sieve of its rules.
+/// The place of the rule of the first line that fits.
+#[inline(always)]
+fn first_place<C: Detects>(sieved: &Sieved, catalog: &C, ue: &Addr, header: &Header) -> Option<u8>
+    requires { AreServed sieved.now.lines.items sieved.now.sieves }
+    ensures { result ≡ option_map (λ (l : Line). l.place)
+        (find (line_fits (C.offers catalog.now) ue.now header.now) sieved.now.lines.items) }
+{
+    match sieved.sieves.of(kind_of(header)) {
+        None => None,
+        Some(sieve) => sieve.first_place(&sieved.lines, catalog, ue, header),
+    }
+}
+
+/// The first entry of a table that fits, behind its place, by the sieves of its rules.
 fn first_sieved<'a, C: Detects>(
-    sieve: &Sieve,
+    sieved: &Sieved,
     table: &'a Table,
     catalog: &C,
     ue: &Addr,
     header: &Header,
 ) -> Option<(u8, &'a TableEntry)>
     requires table { IsTable (C.offers catalog.now) table.now.entries }
-    requires sieve { IsSieveOf (map (λ e. e.source) table.now.entries) sieve.now }
+    requires sieved { IsSievedOf (map (λ e. e.source) table.now.entries) sieved.now }
     ensures known { IfSome result (λ found. IsKnown (C.offers catalog.now) found.1.now.source) }
     ensures first { option_map (λ found. found.1.now) result
         ≡ find (λ e. source_fits (C.offers catalog.now) ue.now header.now e.source) table.now.entries }
     ensures place { IfSome result (λ found. slice_get table.now.entries found.0 ≡ Some found.1.now) }
 {
-    let Some(place) = first_place(
-        &sieve.lines,
-        &sieve.steps,
-        &sieve.words,
-        catalog,
-        ue,
-        header,
-    ) else {
+    let Some(place) = first_place(sieved, catalog, ue, header) else {
         return None;
     };
     let Some(entry) = table.entry(usize::from(place)) else {
@@ -153,7 +181,7 @@ impl Index {
 
     /// Whether there is a sieve. It takes memory for each 64 filters.
     pub(crate) fn is_sieved(&self) -> bool {
-        self.sieve.is_some()
+        self.sieved.is_some()
     }
 
     /// The first entry of the table that fits, behind its place.
@@ -171,9 +199,9 @@ impl Index {
             ≡ find (λ e. source_fits (C.offers catalog.now) ue.now header.now e.source) table.now.entries }
         ensures place { IfSome result (λ found. slice_get table.now.entries found.0 ≡ Some found.1.now) }
     {
-        match &self.sieve {
+        match &self.sieved {
             None => table.first_fitting(catalog, ue, header),
-            Some(sieve) => first_sieved(sieve, table, catalog, ue, header),
+            Some(sieved) => first_sieved(sieved, table, catalog, ue, header),
         }
     }
 

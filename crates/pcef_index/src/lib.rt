@@ -4,24 +4,28 @@
 //! Its contracts say: the same verdict and slots as the table's, with the place of the rule that decided, by one look-up,
 //! and which entries may match a header; that a shared index changes nothing.
 //!
-//! In the order of reading: `candidates`, `rule_filter`, `lines`, `steps`, `cells`, `choosing`, `header_cells`,
-//! `marking`, `sieve`, `index`, `indexed`, `equal`, `fingerprint`, `shelf`.
+//! In the order of reading: `candidates`, `rule_filter`, `lines`, `sides`, `kinds`, `words`, `digits`, `ends`, `steps`,
+//! `choosing`, `rows`, `sieve`, `sieves`, `index`, `indexed`, `equal`, `fingerprint`, `shelf`.
 #![tactic(auto)]
 
 mod candidates;
-mod cells;
 mod choosing;
+mod digits;
+mod ends;
 mod equal;
 mod fingerprint;
-mod header_cells;
 mod index;
 mod indexed;
+mod kinds;
 mod lines;
-mod marking;
+mod rows;
 mod rule_filter;
 mod shelf;
+mod sides;
 mod sieve;
+mod sieves;
 mod steps;
+mod words;
 
 pub use index::Index;
 pub use indexed::{Decision, Indexed};

@@ -1,51 +1,26 @@
-//! Steps: the ports where the intervals begin for which the low field of a side has cells.
+//! Steps: the ports at which the intervals begin that ranges make.
 
-ghost use Rattle.std.specs.Prelude.{◌≡◌, ◌≤◌, ◌<◌, IfOk, length};
-ghost use Rattle.pcef_index.specs.private.Starts.{ArePlaced, cell_of, count_to};
+ghost use Rattle.std.specs.Prelude.{◌≡◌, ◌≤◌, ◌<◌, ◌^◌, length};
+ghost use Rattle.pcef_index.specs.private.Starts.{ArePlaced, cell_of, count_up};
 
+use crate::ends::Ends;
 use std::alloc::{AllocError, Global};
 
 /// The ports where intervals begin, in ascending order, and where those of each high octet begin and end among them.
-/// Where there are none, the low field has a cell for each low octet.
 #[derive(Drop)]
 pub(crate) struct Steps {
     /// Where the steps of each high octet begin, and where the last end; empty where there are none.
-    pub starts: Vec<u8>,
+    starts: Vec<usize>,
     ports: Vec<u16>,
-    ghost placed: { 0 < length starts.items → ArePlaced starts.items ports.items },
+    ghost placed: { 257 ≤ length starts.items → ArePlaced starts.items ports.items },
 }
 
-/// The steps of the remote port, and of the local port.
-#[derive(Drop)]
-pub(crate) struct PortSteps {
-    /// Those of the remote port.
-    pub remote: Steps,
-    /// Those of the local port.
-    pub local: Steps,
-}
-
-/// The number of steps at or below a port.
-fn count_to(ports: &[u16], port: u16) -> u16
-    requires { length ports.now ≤ 255 }
-    ensures { result ≡ count_to port ports.now }
+/// How many ports from the first on are at or below one, up to the first that isn't.
+fn count_up(ports: &[u16], port: u16) -> usize
+    ensures { result ≡ count_up port ports.now }
 {
-    let mut count = 0;
-    for step in ports {
-        if *step <= port {
-            count += 1;
-        }
-    }
-    count
-}
-
-/// The place, from `from` on, of the first of these ports that isn't below a limit.
-fn count_up_to(ports: &[u16], from: usize, limit: u32) -> usize
-    requires { from ≤ length ports.now }
-    ensures least { from ≤ result }
-    ensures most { result ≤ length ports.now }
-{
-    for place in from..ports.len() {
-        if u32::from(ports[place]) >= limit {
+    for place in 0..ports.len() {
+        if ports[place] > port {
             return place;
         }
     }
@@ -61,30 +36,48 @@ impl Steps {
         }
     }
 
-    /// The steps at these ports, which are in ascending order. Fails when out of memory.
-    pub(crate) fn new(alloc: Global, ports: Vec<u16>) -> Result<Steps, AllocError>
-        requires { length ports.items ≤ 255 }
-    {
-        let mut starts = Vec::with_capacity(alloc, 257)?;
-        let mut start = 0;
-        for octet in 0..257u32 {
-            start = count_up_to(&ports, start, octet * 256);
-            starts.push(start as u8)?;
+    /// The steps at some ends, which are taken out. Fails when out of memory.
+    pub(crate) fn new(alloc: Global, ends: &mut Ends) -> Result<Steps, AllocError> {
+        if ends.is_empty() {
+            return Ok(Steps::none(alloc));
         }
+        let mut starts = Vec::with_capacity(alloc, 257)?;
+        let mut ports = Vec::new(alloc);
+        for octet in 0..=u8::MAX {
+            starts.push(ports.len())?;
+            ends.take(octet, &mut ports)?;
+        }
+        starts.push(ports.len())?;
+        ends.clear();
         Ok(Steps { starts, ports })
     }
 
-    /// How many steps are at or below a port. Those of lower high octets aren't compared.
-    #[tactic(auto, unfolding(crate::specs::private::Starts::cell_of))]
-    pub(crate) fn cell_of(&self, port: u16) -> u16
-        requires { 0 < length self.now.starts.items }
-        ensures is { result ≡ cell_of self.now.starts.items self.now.ports.items port }
-        ensures small { result < 256 }
+    /// How many steps there are.
+    pub(crate) fn len(&self) -> usize
+        ensures { result ≡ length self.now.ports.items }
     {
+        self.ports.len()
+    }
+
+    /// The steps, in ascending order.
+    pub(crate) fn ports(&self) -> &[u16] {
+        &self.ports
+    }
+
+    /// How many steps are at or below a port. Those of lower high octets aren't compared.
+    #[inline(always)]
+    #[tactic(auto, unfolding(crate::specs::private::Starts::cell_of))]
+    pub(crate) fn cell_of(&self, port: u16) -> usize
+        ensures is { result ≡ cell_of self.now.starts.items self.now.ports.items port }
+        ensures within { result ≤ length self.now.ports.items }
+        ensures ranged { port < 2 ^ 16 }
+    {
+        if self.starts.len() < 257 {
+            return 0;
+        }
         let octet = usize::from(port / 256);
         let from = self.starts[octet];
         let to = self.starts[octet + 1];
-        let steps = &self.ports[usize::from(from)..usize::from(to)];
-        u16::from(from) + count_to(steps, port)
+        from + count_up(&self.ports[from..to], port)
     }
 }

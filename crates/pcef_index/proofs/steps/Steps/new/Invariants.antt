@@ -1,10 +1,9 @@
-use Rattle.std.proofs.Common.{◌≡◌, ◌≤◌, length}
+use Rattle.std.proofs.Common.{◌≡◌, ◌<◌, ◌≤◌, ◌+◌, ◌-◌, ◌*◌, ◌/◌, ◌%◌, ◌^◌, ℕ, length, take}
 use Rattle.pcef_index.proofs.Placing.{Ascends}
 use Rattle.pcef_index.proofs.steps.Steps.new.Given as goal
 
 abbrev pub invariant-loop-octet : goal.invariant-loop-octet
 invariant-loop-octet l = record {
-  full : length l.starts.items ≡ l.octet;
-  within : l.start ≤ length l.ports.items;
-  ascends : Ascends l.starts.items l.start;
+  ascends : Ascends l.starts.items (length l.ports.items);
+  count : length l.starts.items ≡ l.octet;
 }
