@@ -1,5 +1,5 @@
 -- Sieves that get more bits.
-use Rattle.std.proofs.Common.{◌≡◌, ◌<◌, ◌≤◌, ◌+◌, ◌*◌, ◌==◌, ◌⊎◌, ◌∙◌, ℕ, Bool, true, false, Option, Some, None, List, get_or, length, refl, sym, subst, inl, inr, ap, arith}
+use Rattle.std.proofs.Common.{◌≡◌, ◌<◌, ◌≤◌, ◌+◌, ◌*◌, ◌==◌, ◌⊎◌, ◌∙◌, ℕ, Bool, true, false, Option, Some, None, List, get_or, length, refl, subst, inl, inr, ap, arith}
 use Rattle.std.proofs.Math.ListN.{get_or-eq_default}
 use Rattle.std.specs.Prelude.{IfSome, if◌then◌else◌}
 use Rattle.std.proofs.lemmas.Nat.Bits.{bit_at-zero}
@@ -23,7 +23,7 @@ use Rattle.pcef_index.specs.declared.sieve.Sieve.{Sieve}
 use Rattle.pcef_index.specs.private.Digits.{LetsAddr}
 use Rattle.pcef_index.specs.private.Rows.{LetsNumber, row_count, row_of, step_cell}
 use Rattle.pcef_index.specs.private.Sides.{addr_on, port_on}
-use Rattle.pcef_index.specs.private.Sieves.{Lets, LetsHeader, LetsOne, LetsPlace, LetsRow, LetsSidesAt, free_at, looks_at_all}
+use Rattle.pcef_index.specs.private.Sieves.{LetsHeader, LetsOne, LetsPlace, LetsRow, LetsSidesAt, looks_at_all}
 
 -- no bit of a word is lost
 abbrev pub BitsStay : ℕ → ℕ → Type 0

@@ -1,5 +1,5 @@
 -- What a filter that matches a packet says of the packet's sides.
-use Rattle.std.proofs.Common.{◌≡◌, ◌&&◌, ◌∙◌, ℕ, Bool, true, Option, Some, None, ap, refl, sym}
+use Rattle.std.proofs.Common.{◌≡◌, ◌&&◌, ◌∙◌, ℕ, true, Option, Some, None, ap, refl, sym}
 use Rattle.std.proofs.lemmas.Bool.{and_parts}
 use Rattle.pcef_packet.specs.declared.header.Addr.{Addr}
 use Rattle.pcef_packet.specs.declared.header.Dir.{Dir}
@@ -15,7 +15,7 @@ use Rattle.pcef_filter.specs.declared.filter.Filter.{Filter}
 use Rattle.pcef_filter.specs.Matching.{applies, dst_port, endpoint_fits, matches, orientation_of, oriented_fits, place_fits, ports_fit, proto_fits, src_port}
 use Rattle.pcef_index.specs.declared.sides.Side.{Side}
 use Rattle.pcef_index.specs.declared.sides.Side.TheVariants.{Remote, Local}
-use Rattle.pcef_index.specs.private.Sides.{addr_in, addr_on, end_in, end_on, port_of, port_on}
+use Rattle.pcef_index.specs.private.Sides.{addr_in, end_in, port_of}
 
 -- a side of a packet fits the end of a filter
 pub record FitsSide (d : Direction) (dir : Dir) (f : Filter) (ue : Addr) (h : Header) (side : Side) : Type 0 where

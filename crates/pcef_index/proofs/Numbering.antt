@@ -1,11 +1,9 @@
 -- The first line that passes a test, by the numbers of lines.
-use Rattle.std.proofs.Common.{◌≡◌, ◌<◌, ◌+◌, ◌++◌, ◌∙◌, ℕ, suc, Bool, true, false, Option, Some, None, List, [], ◌∷◌, find, length, take, ap, refl, sym, arith, inl, inr}
-use Rattle.std.proofs.Math.Seq.{take-suc}
+use Rattle.std.proofs.Common.{◌≡◌, ◌++◌, ◌∙◌, ℕ, Bool, true, false, Option, Some, None, List, [], ◌∷◌, find, ap, refl, sym, inl, inr}
 use Rattle.std.specs.Prelude.{option_map, option_and_then, slice_get}
 use Rattle.std.specs.Option.{option_map_or, option_or}
 use Rattle.std.proofs.lemmas.Bool.{cases_Bool, cond-true, cond-false}
 use Rattle.std.proofs.lemmas.List.Folds.{find-append}
-use Rattle.pcef_lists.proofs.Tests.{contrary}
 use Rattle.pcef_index.specs.declared.lines.Line.{Line}
 use Rattle.pcef_index.specs.private.Words.{first_of, fits_at, place_at}
 

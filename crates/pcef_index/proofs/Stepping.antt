@@ -1,9 +1,7 @@
 -- How many steps are at or below a port.
-use Rattle.std.proofs.Common.{◌≡◌, ◌<◌, ◌≤◌, ◌+◌, ◌-◌, ◌*◌, ◌/◌, ◌^◌, ◌++◌, ◌∙◌, ◌==◌, ◌⊎◌, ◌&&◌, ◌||◌, ℕ, suc, Bool, true, false, List, [], ◌∷◌, length, take, drop, get_or, nat_le, nat_lt, refl, sym, subst, ap, arith, inl, inr}
-use Rattle.std.specs.Prelude.{if◌then◌else◌}
+use Rattle.std.proofs.Common.{◌≡◌, ◌<◌, ◌≤◌, ◌+◌, ◌-◌, ◌/◌, ◌^◌, ◌++◌, ◌⊎◌, ◌&&◌, ℕ, suc, true, false, List, [], ◌∷◌, length, take, drop, nat_le, nat_lt, refl, sym, subst, arith, inl, inr}
 use Rattle.std.proofs.lemmas.Bool.{and_parts, cases_Bool, cases_lt, cond_both, le-leb, leb-true, ltb-false, or_cases}
 use Rattle.std.proofs.lemmas.List.{length-take}
-use Rattle.std.proofs.Math.Seq.{take-suc}
 use Rattle.pcef_filter.specs.declared.filter.PortRange.{PortRange}
 use Rattle.pcef_filter.specs.Matching.{in_ranges}
 use Rattle.pcef_index.specs.declared.steps.Steps.{Steps}

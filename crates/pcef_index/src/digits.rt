@@ -82,6 +82,10 @@ fn mark_digit(words: &mut [u64], at: usize, bit: u32, value: usize, loose: u8)
     requires within { at + 16 ≤ length words.old }
     ensures { MarksDigit words.old words.new at bit value loose }
 {
+    if loose == 0 {
+        mark_words(words, bit, at + value, at + value);
+        return;
+    }
     let (first, last) = values_of(value, loose);
     mark_words(words, bit, at + first, at + last);
 }
@@ -128,7 +132,9 @@ fn word_of_eight(words: &[u64], part: u32) -> u64
     word
 }
 
+// Not inlined, so that the word of a version 4 address is.
 /// The lines that let a wide number pass.
+#[inline(never)]
 fn word_of_wide(words: &[u64], number: u128) -> u64
     requires { 512 ≤ length words.now }
     ensures { (i : ℕ) → i < 64 → HasDigits words.now 0 32 number i → bit_at result i ≡ 1 }

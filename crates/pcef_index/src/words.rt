@@ -15,6 +15,7 @@ pub(crate) struct Spot {
 }
 
 /// Sets a bit in the words from the first to the last.
+#[inline(always)]
 pub(crate) fn mark_words(words: &mut [u64], bit: u32, first: usize, last: usize)
     requires bit { bit < 64 }
     requires within { last < length words.old }

@@ -1,5 +1,5 @@
 -- Rows: words by the intervals between steps.
-use Rattle.std.specs.Prelude.{ℕ, ◌+◌, ◌*◌, ◌^◌, ◌≡◌, ◌≤◌, ◌<◌, ◌==◌, List, Option, Some, None, IfSome, length, if◌then◌else◌, true}
+use Rattle.std.specs.Prelude.{ℕ, ◌+◌, ◌*◌, ◌^◌, ◌≡◌, ◌<◌, ◌==◌, List, Option, Some, None, IfSome, length, if◌then◌else◌, true}
 use Rattle.pcef_filter.specs.declared.filter.PortRange.{PortRange}
 use Rattle.pcef_filter.specs.Matching.{in_ranges}
 use Rattle.pcef_index.specs.declared.rows.Rows.{Rows}

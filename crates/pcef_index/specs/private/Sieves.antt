@@ -1,9 +1,8 @@
 -- Sieves: which lines of a list may fit packets of a kind, and that a packet's words have the bits of those that fit.
-use Rattle.std.specs.Prelude.{ℕ, ◌+◌, ◌/◌, ◌%◌, ◌^◌, ◌≡◌, ◌<◌, ◌⊎◌, Bool, true, List, [], length, Option, Some, None, find, get_or, option_map, IfSome}
+use Rattle.std.specs.Prelude.{ℕ, ◌+◌, ◌/◌, ◌%◌, ◌^◌, ◌≡◌, ◌<◌, ◌⊎◌, true, List, [], length, Option, Some, None, find, get_or, option_map, IfSome}
 use Rattle.std.specs.Int.{bit_at}
 use Rattle.pcef_packet.specs.declared.header.Addr.{Addr}
 use Rattle.pcef_packet.specs.declared.header.Header.{Header}
-use Rattle.pcef_packet.specs.declared.header.Ports.{Ports}
 use Rattle.pcef_catalog.specs.declared.listing.Offer.{Offer}
 use Rattle.pcef_index.specs.declared.digits.Digits.{Digits}
 use Rattle.pcef_index.specs.declared.kinds.Kind.{Kind}

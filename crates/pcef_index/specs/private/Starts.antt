@@ -1,5 +1,5 @@
 -- Steps, the ports where intervals begin: how many are at or below a port, where those of each high octet stand together.
-use Rattle.std.specs.Prelude.{ℕ, ◌^◌, ◌+◌, ◌-◌, ◌*◌, ◌/◌, ◌≡◌, ◌≤◌, ◌<◌, ◌==◌, ◌∷◌, [], List, Option, Some, None, drop, get_or, length, nat_le, nat_lt, take, if◌then◌else◌, true}
+use Rattle.std.specs.Prelude.{ℕ, ◌+◌, ◌-◌, ◌/◌, ◌≡◌, ◌≤◌, ◌<◌, ◌∷◌, [], List, drop, get_or, length, nat_le, nat_lt, take, if◌then◌else◌}
 
 -- the place of the first step of a high octet, or behind the last octet
 abbrev pub start : List ℕ → ℕ → ℕ

@@ -1,4 +1,4 @@
-use Rattle.std.proofs.Common.{◌≡◌, ◌<◌, ◌≤◌, ◌+◌, ◌-◌, ◌*◌, ◌/◌, ◌%◌, ◌^◌, ℕ, length, take}
+use Rattle.std.proofs.Common.{◌<◌, ◌-◌, ◌*◌, ℕ}
 use Rattle.pcef_index.specs.private.Digits.{AgreeAbove, HasDigits, digit_of}
 use Rattle.pcef_index.specs.private.Words.{Grows}
 use Rattle.pcef_index.proofs.digits.mark_eight.Given as goal

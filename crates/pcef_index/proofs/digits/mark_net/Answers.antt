@@ -1,7 +1,7 @@
-use Rattle.std.proofs.Common.{◌≡◌, ◌<◌, ◌≤◌, ◌+◌, ◌-◌, ◌*◌, ◌/◌, ◌%◌, ◌^◌, ◌∙◌, ℕ, subst, sym, ap, arith, inl, inr}
+use Rattle.std.proofs.Common.{◌≡◌, ◌<◌, ◌+◌, ◌-◌, ◌*◌, ◌/◌, ◌^◌, ◌∙◌, ℕ, subst, sym, ap, arith, inl, inr}
 use Rattle.std.proofs.lemmas.Bool.{cases_lt}
 use Rattle.pcef_packet.specs.Addresses.{width_of}
-use Rattle.pcef_index.specs.private.Digits.{AgreeAbove, HasDigits, digit_of, number_of, part_of}
+use Rattle.pcef_index.specs.private.Digits.{AgreeAbove, digit_of, number_of, part_of}
 use Rattle.pcef_index.specs.private.Words.{Has}
 use Rattle.pcef_index.proofs.Bits.{then_grows}
 use Rattle.pcef_index.proofs.DigitLaws.{part_digit, parts_agree}

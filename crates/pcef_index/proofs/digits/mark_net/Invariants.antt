@@ -1,4 +1,4 @@
-use Rattle.std.proofs.Common.{◌≡◌, ◌<◌, ◌≤◌, ◌+◌, ◌-◌, ◌*◌, ◌/◌, ◌%◌, ◌^◌, ℕ, length, take}
+use Rattle.std.proofs.Common.{◌≡◌, ◌-◌, ◌*◌, ◌/◌, ◌^◌, ℕ}
 use Rattle.pcef_index.specs.private.Digits.{HasDigits, number_of}
 use Rattle.pcef_packet.specs.Addresses.{width_of}
 use Rattle.pcef_index.specs.private.Words.{Grows}

@@ -1,4 +1,4 @@
-use Rattle.std.proofs.Common.{◌≡◌, ◌<◌, ◌+◌, ◌*◌, ◌/◌, ◌%◌, ◌^◌, ℕ, get_or, subst, arith}
+use Rattle.std.proofs.Common.{◌≡◌, ◌+◌, ◌*◌, ℕ, get_or, subst, arith}
 use Rattle.pcef_index.specs.private.Digits.{digit_of}
 use Rattle.pcef_index.specs.private.Words.{Has}
 use Rattle.pcef_index.proofs.Bits.{and_has, full_has}

@@ -1,4 +1,4 @@
-use Rattle.std.proofs.Common.{◌≡◌, ◌<◌, ◌≤◌, ◌+◌, ◌-◌, ◌*◌, ◌/◌, ◌%◌, ◌^◌, ℕ, length, take}
+use Rattle.std.proofs.Common.{◌≡◌, ◌<◌, ℕ}
 use Rattle.std.specs.Int.{bit_at}
 use Rattle.pcef_index.specs.private.Digits.{HasDigits}
 use Rattle.pcef_index.proofs.digits.word_of_eight.Given as goal

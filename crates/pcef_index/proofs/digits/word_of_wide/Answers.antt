@@ -1,4 +1,4 @@
-use Rattle.std.proofs.Common.{◌≡◌, ◌<◌, ◌≤◌, ◌+◌, ◌-◌, ◌*◌, ◌/◌, ◌%◌, ◌^◌, ◌∙◌, ℕ, List, drop, get_or, length, take, subst, sym, ap, arith}
+use Rattle.std.proofs.Common.{◌≡◌, ◌<◌, ◌+◌, ◌-◌, ◌*◌, ℕ, List, drop, length, take, subst, sym, arith}
 use Rattle.std.proofs.lemmas.List.{get_or-drop, take_rest}
 use Rattle.pcef_index.specs.private.Digits.{HasDigits, digit_of, part_of}
 use Rattle.pcef_index.specs.private.Words.{Has}

@@ -1,4 +1,4 @@
-use Rattle.std.proofs.Common.{◌≡◌, ◌∙◌, ap, sym}
+use Rattle.std.proofs.Common.{◌∙◌, ap}
 use Rattle.pcef_filter.specs.declared.filter.Endpoint.{Endpoint}
 use Rattle.pcef_filter.specs.Matching.{place_fits}
 use Rattle.pcef_index.specs.declared.kinds.Kind.{Kind}

@@ -1,4 +1,4 @@
-use Rattle.std.proofs.Common.{◌≡◌, ◌<◌, ◌≤◌, ◌+◌, ◌-◌, ◌*◌, ◌/◌, ◌%◌, ◌^◌, ℕ, length, take}
+use Rattle.std.proofs.Common.{◌≡◌, ◌<◌, ◌+◌, ◌^◌, ℕ, take}
 use Rattle.std.proofs.Common.{true}
 use Rattle.pcef_filter.specs.Matching.{in_ranges}
 use Rattle.pcef_index.specs.private.Rows.{step_cell}

@@ -1,4 +1,4 @@
-use Rattle.std.proofs.Common.{◌*◌, ◌%◌, ◌^◌, ℕ}
+use Rattle.std.proofs.Common.{◌*◌, ◌%◌, ◌^◌}
 use Rattle.std.specs.Int.{w64}
 use Rattle.std.proofs.lemmas.Nat.Bits.{bit_at_set_same}
 use Rattle.pcef_index.proofs.Bits.{or_keeps}

@@ -1,4 +1,4 @@
-use Rattle.std.proofs.Common.{◌≡◌, ◌<◌, ◌≤◌, ◌+◌, ◌-◌, ◌*◌, ◌/◌, ◌%◌, ◌^◌, ℕ, length, take}
+use Rattle.std.proofs.Common.{◌≡◌, ◌+◌}
 use Rattle.std.proofs.Common.{drop}
 use Rattle.pcef_index.specs.private.Starts.{count_up}
 use Rattle.pcef_index.proofs.steps.count_up.Given as goal

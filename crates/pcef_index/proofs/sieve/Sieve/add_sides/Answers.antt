@@ -1,4 +1,4 @@
-use Rattle.std.proofs.Common.{◌≡◌, ◌<◌, ◌∙◌, ℕ, List, true, get_or, length, ap, refl, sym, subst, arith}
+use Rattle.std.proofs.Common.{◌≡◌, ◌<◌, ◌∙◌, List, get_or, length, ap, subst, arith}
 use Rattle.std.proofs.Math.ListN.{set}
 use Rattle.std.proofs.lemmas.List.{get_or_default, get_or-set_same}
 use Rattle.pcef_filter.specs.declared.filter.Endpoint.{Endpoint}
@@ -7,8 +7,8 @@ use Rattle.pcef_filter.specs.Matching.{place_fits, ports_fit}
 use Rattle.pcef_index.specs.declared.sides.Side.TheVariants.{Remote, Local}
 use Rattle.pcef_index.specs.declared.sieve.Free.{Free}
 use Rattle.pcef_index.specs.private.Sides.{addr_on, port_on}
-use Rattle.pcef_index.specs.private.Sieves.{Lets, LetsSidesAt, looks_at_all}
-use Rattle.pcef_index.proofs.Keeping.{FreeStays, SieveStays, free_stays, header_stays, same_digits}
+use Rattle.pcef_index.specs.private.Sieves.{looks_at_all}
+use Rattle.pcef_index.proofs.Keeping.{FreeStays, free_stays, header_stays}
 use Rattle.pcef_index.proofs.Matching.{sides_match}
 use Rattle.pcef_index.proofs.sieve.Sieve.add_sides.Goals as goal
 

@@ -1,4 +1,4 @@
-use Rattle.std.proofs.Common.{◌≡◌, ◌+◌, ◌/◌, ℕ, length}
+use Rattle.std.proofs.Common.{◌≡◌, ◌+◌, ◌/◌, length}
 use Rattle.pcef_index.specs.private.Sieves.{IsShaped, LetsTo}
 use Rattle.pcef_index.proofs.sieve.Sieve.fill.Given as goal
 

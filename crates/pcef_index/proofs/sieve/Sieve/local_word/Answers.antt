@@ -1,10 +1,7 @@
-use Rattle.std.proofs.Common.{◌≡◌, ◌⊎◌, ◌∙◌, ℕ, get_or, ap, subst, sym, refl, inl, inr, arith}
+use Rattle.std.proofs.Common.{◌≡◌, ◌∙◌, get_or, subst, sym, arith}
 use Rattle.std.specs.Int.{bit_at}
 use Rattle.std.proofs.lemmas.List.{get_or_default}
 use Rattle.pcef_packet.specs.declared.header.Addr.{Addr}
-use Rattle.pcef_index.specs.declared.digits.Digits.{Digits}
-use Rattle.pcef_index.specs.declared.kinds.Version.{Version}
-use Rattle.pcef_index.specs.declared.kinds.Version.TheVariants.{V4, V6}
 use Rattle.pcef_index.specs.declared.sides.Side.TheVariants.{Local}
 use Rattle.pcef_index.specs.declared.sieve.Free.{Free}
 use Rattle.pcef_index.specs.private.Digits.{LetsAddr}

@@ -1,4 +1,4 @@
-use Rattle.std.proofs.Common.{◌≡◌, ◌∙◌, ℕ, Some, get_or, length, sym, subst, arith}
+use Rattle.std.proofs.Common.{◌≡◌, ◌∙◌, Some, get_or, length, sym, subst}
 use Rattle.std.proofs.lemmas.List.{get_or_default}
 use Rattle.pcef_packet.specs.declared.header.Addr.{Addr}
 use Rattle.pcef_index.specs.declared.sides.Side.TheVariants.{Remote, Local}

@@ -1,4 +1,4 @@
-use Rattle.std.proofs.Common.{◌≡◌, ◌<◌, ◌≤◌, ◌+◌, ◌-◌, ◌/◌, ◌∙◌, ℕ, List, drop, length, take, ap, sym, arith}
+use Rattle.std.proofs.Common.{◌≡◌, ◌<◌, ◌≤◌, ◌+◌, ◌-◌, ◌∙◌, ℕ, List, drop, length, take, ap, arith}
 use Rattle.std.proofs.lemmas.List.{get_or_default}
 use Rattle.pcef_index.specs.private.Starts.{ArePlaced, cell_at, count_up, start}
 use Rattle.pcef_index.proofs.Stepping.{cell_at_le}

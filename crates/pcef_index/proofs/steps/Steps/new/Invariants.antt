@@ -1,4 +1,4 @@
-use Rattle.std.proofs.Common.{◌≡◌, ◌<◌, ◌≤◌, ◌+◌, ◌-◌, ◌*◌, ◌/◌, ◌%◌, ◌^◌, ℕ, length, take}
+use Rattle.std.proofs.Common.{◌≡◌, length}
 use Rattle.pcef_index.proofs.Placing.{Ascends}
 use Rattle.pcef_index.proofs.steps.Steps.new.Given as goal
 
