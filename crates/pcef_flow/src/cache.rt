@@ -114,33 +114,55 @@ impl FlowCache {
         ensures place { IsPlaced (C.offers catalog.now) followed.now.entries result.verdict result.place }
         ensures slots { result.slots.items ≡ slots_counted (C.offers catalog.now) followed.now result.verdict }
     {
-        if !self.is_used || !is_own(header, ue) {
+        if !is_own(header, ue) {
             return followed.judged(catalog, ue, header);
         }
-        let place = self.first_place(followed, catalog, ue, header);
+        let place = self.first_place(followed, catalog, &ue, header);
         followed.decided_at(catalog, place, header)
     }
 
-    /// The place of the first entry that fits a packet, as remembered, or by a look-up.
-    fn first_place<C: Detects>(
+    /// The place of the first entry of the table that is followed that fits a packet, as [`Indexed::first_place`] gives
+    /// it: that of its flow, where the cache has it, else by a look-up, which it then remembers, where it is used. Takes
+    /// no memory.
+    #[inline(always)]
+    pub fn first_place<C: Detects>(
         &mut self,
         followed: &Indexed,
         catalog: &C,
-        ue: Addr,
+        ue: &Addr,
         header: &Header,
     ) -> Option<u8>
         requires table { IsTable (C.offers catalog.now) followed.now.entries }
-        requires remembers { Remembers (C.offers catalog.now) followed.now.entries ue self.old }
-        requires used { all_ignore_volume (C.offers catalog.now) followed.now.entries ≡ true }
-        ensures remembers { Remembers (C.offers catalog.now) followed.now.entries ue self.new }
-        ensures first { IsFirstPlace (C.offers catalog.now) followed.now.entries ue header.now result }
+        requires remembers { Remembers (C.offers catalog.now) followed.now.entries ue.now self.old }
+        ensures remembers { Remembers (C.offers catalog.now) followed.now.entries ue.now self.new }
+        ensures first { IsFirstPlace (C.offers catalog.now) followed.now.entries ue.now header.now result }
     {
         let at = spread(header) & self.flows.len().wrapping_sub(1);
         if let Some(remembered) = self.remembered_at(at, header) {
             return remembered;
         }
-        let place = followed.first_place(catalog, ue, header);
-        if at < self.flows.len() {
+        // A copy, so that the header itself need not lie in memory.
+        let copy = *header;
+        self.looked_up(at, followed, catalog, ue, &copy)
+    }
+
+    /// The place of the first entry that fits a packet, by a look-up, which is remembered where the cache is used.
+    #[inline(never)]
+    fn looked_up<C: Detects>(
+        &mut self,
+        at: usize,
+        followed: &Indexed,
+        catalog: &C,
+        ue: &Addr,
+        header: &Header,
+    ) -> Option<u8>
+        requires table { IsTable (C.offers catalog.now) followed.now.entries }
+        requires remembers { Remembers (C.offers catalog.now) followed.now.entries ue.now self.old }
+        ensures remembers { Remembers (C.offers catalog.now) followed.now.entries ue.now self.new }
+        ensures first { IsFirstPlace (C.offers catalog.now) followed.now.entries ue.now header.now result }
+    {
+        let place = followed.first_place(catalog, *ue, header);
+        if self.is_used && at < self.flows.len() {
             let flow = Flow::of(header);
             self.flows[at] = Some(Remembered { flow, place });
         }
@@ -148,6 +170,7 @@ impl FlowCache {
     }
 
     /// The place of the rule that decides of a packet, where its flow is remembered here.
+    #[inline(always)]
     fn remembered_at(&self, at: usize, header: &Header) -> Option<Option<u8>>
         ensures { IfSome result (λ place. Contains self.now.notes
             (Some (record { flow = flow_of header.now; place = place }))) }

@@ -66,7 +66,7 @@ read_bad_total dir octets least within bad =
           rw (one, more (header_len_v4 octets) 20 least, more (length octets) (header_len_v4 octets) within, order, less (length octets) (total_len_v4 octets) high) refl)
     ]
 
-read_fine : (dir : Dir) (octets : List ℕ) → 20 ≤ header_len_v4 octets → header_len_v4 octets ≤ total_len_v4 octets → total_len_v4 octets ≤ length octets → reading_v4 dir octets ≡ Ok (header_v4 dir octets)
+pub read_fine : (dir : Dir) (octets : List ℕ) → 20 ≤ header_len_v4 octets → header_len_v4 octets ≤ total_len_v4 octets → total_len_v4 octets ≤ length octets → reading_v4 dir octets ≡ Ok (header_v4 dir octets)
 read_fine dir octets least order within =
     rw (
       more (length octets) 20 (omega arith),

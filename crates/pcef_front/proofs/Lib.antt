@@ -6,4 +6,5 @@ pub mod FrontReadings
 pub mod FrontsV4
 pub mod FrontsV6
 pub mod OneReading
+pub mod PlainPackets
 pub mod Told

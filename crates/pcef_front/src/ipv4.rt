@@ -29,7 +29,7 @@ fn header_len_of(front: &[u8]) -> usize
 
 /// The total length in octets.
 #[tactic(auto, unfolding(pcef_packet::specs::HeaderOf::total_len_v4))]
-fn total_len_of(front: &[u8]) -> usize
+pub(crate) fn total_len_of(front: &[u8]) -> usize
     requires { 4 ≤ length front.now }
     ensures { result ≡ total_len_v4 front.now }
 {
@@ -38,7 +38,7 @@ fn total_len_of(front: &[u8]) -> usize
 
 /// The fragment offset, without the flags above it.
 #[tactic(auto, unfolding(pcef_packet::specs::HeaderOf::fragment_offset_v4))]
-fn fragment_offset_of(front: &[u8]) -> u16
+pub(crate) fn fragment_offset_of(front: &[u8]) -> u16
     requires { 20 ≤ length front.now }
     ensures { result ≡ fragment_offset_v4 front.now }
 {
@@ -84,7 +84,7 @@ fn ports_behind(
 
 /// The header with these ports.
 #[tactic(auto, unfolding(pcef_packet::specs::HeaderOf::total_len_v4))]
-fn header_with(dir: Dir, front: &[u8], ports: Option<Ports>) -> Header
+pub(crate) fn header_with(dir: Dir, front: &[u8], ports: Option<Ports>) -> Header
     requires { 20 ≤ length front.now }
     ensures { result ≡ header_with_v4 dir front.now ports }
 {

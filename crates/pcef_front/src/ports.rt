@@ -13,7 +13,7 @@ use pcef_packet::Ports;
 const PORTS_LEN: usize = 4;
 
 /// Whether a protocol begins with its ports.
-fn carries_ports(proto: u8) -> bool
+pub(crate) fn carries_ports(proto: u8) -> bool
     ensures { result ≡ carries_ports proto }
 {
     matches!(proto, 6 | 17 | 132)
@@ -27,7 +27,7 @@ pub(crate) fn has_ports(proto: u8, room: usize) -> bool
 }
 
 /// The ports that these octets begin with.
-fn ports_at(payload: &[u8]) -> Ports
+pub(crate) fn ports_at(payload: &[u8]) -> Ports
     requires { 4 ≤ length payload.now }
     ensures { result ≡ ports_at payload.now }
 {

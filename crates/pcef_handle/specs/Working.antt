@@ -56,6 +56,10 @@ TakesRead old Reads (Err (taking.NoPacket fault)) new = Reads (Err (front.Packet
 TakesRead old Reads (Err taking.TooFew) new = Reads (Err front.TooFew) × (new ≡ old)
 TakesRead old Reads result new = (header : Header) × Reads (Ok header) × TakesHeader old header result new
 
+-- a packet of `whole` octets that begins with these
+abbrev pub TakesFront : Attached → Dir → List ℕ → ℕ → Result (Option ℕ) TakeRefusal → Attached → Type 0
+TakesFront old dir octets whole result new = TakesRead old (IsSettledBy (header_of dir) (take whole octets) whole) result new
+
 abbrev pub TakesIn : Option Attached → (Result Header FrontFault → Type 0) → Result (Option ℕ) TakeRefusal → Option Attached → Type 0
 TakesIn None Reads result None = result ≡ Err taking.NoWorker
 TakesIn (Some old) Reads result (Some new) = TakesRead old Reads result new

@@ -5,21 +5,22 @@ ghost use Rattle.std.specs.Option.{option_copied};
 ghost use Rattle.pcef_world.specs.Apart.{held_apart};
 ghost use Rattle.pcef_handle.specs.Attached.{last_of};
 ghost use Rattle.pcef_handle.specs.Naming.{NamesAt};
-ghost use Rattle.pcef_handle.specs.Working.{Abandons, Attaches, Belongs, Finishes, Flushes, Refreshes, TakesHeader};
+ghost use Rattle.pcef_handle.specs.Working.{Abandons, Attaches, Belongs, Finishes, Flushes, Refreshes, TakesFront, TakesHeader};
 
 use crate::held::OpenSession;
 use crate::naming::{NameRefusal, name_at};
 use pcef_built_in::ShapedCatalog;
 use pcef_flow::FlowCache;
+use pcef_front::{FrontFault, read_front, read_plain};
 use pcef_model::{AttachFault, FlushRefusal, Verdicts};
-use pcef_packet::{Header, PacketFault};
+use pcef_packet::{Dir, Header, PacketFault};
 use pcef_session::Item;
 use pcef_world::ApartWorker;
 use std::alloc::Global;
 use std::marker::Model;
 
-/// How many flows a worker remembers: some 5 KB.
-const MOST_FLOWS: usize = 64;
+/// How many flows a session and each worker remember: some 5 KB.
+pub(crate) const MOST_FLOWS: usize = 64;
 
 /// A worker that is attached: the predefined rules, the worker, the flows that it judged last, and the number of its
 /// session. The table that it holds is one of the predefined rules, so a packet is judged without the session.
@@ -166,6 +167,39 @@ impl AttachedWorker {
             Ok(Err(_)) => Err(TakeRefusal::Full),
             Err(_) => Err(TakeRefusal::NoMemory),
         }
+    }
+
+    /// Judges a packet of `whole` octets that begins with `front`, and lets its row wait.
+    fn take_front(
+        &mut self,
+        dir: Dir,
+        front: &[u8],
+        whole: usize,
+    ) -> Result<Option<u8>, TakeRefusal>
+        ensures { TakesFront self.old dir front.now whole result self.new }
+    {
+        match read_front(dir, front, whole) {
+            Ok(header) => self.take(&header),
+            Err(FrontFault::Packet(fault)) => Err(TakeRefusal::NoPacket(fault)),
+            Err(FrontFault::TooFew) => Err(TakeRefusal::TooFew),
+        }
+    }
+
+    /// The same, of a packet that most are like: it is read as a plain one first.
+    pub(crate) fn take_packet(
+        &mut self,
+        dir: Dir,
+        front: &[u8],
+        whole: usize,
+    ) -> Result<Option<u8>, TakeRefusal>
+        ensures { TakesFront self.old dir front.now whole result self.new }
+    {
+        if whole == front.len() {
+            if let Some(header) = read_plain(dir, front) {
+                return self.take(&header);
+            }
+        }
+        self.take_front(dir, front, whole)
     }
 
     /// Takes the newest table of its session, and returns the generation's number. Its rows go on waiting.

@@ -24,7 +24,7 @@ pub use attached::{AttachRefusal, AttachedWorker, MeetRefusal, TakeRefusal};
 pub use bearers::{BearerRefusal, BearerState};
 pub use counts::{KeyUsage, UsageRefusal};
 pub use held::{Handle, OpenSession};
-pub use judging::{JudgeRefusal, Judgement};
+pub use judging::JudgeRefusal;
 pub use line::CallRefusal;
 pub use naming::NameRefusal;
 pub use opening::{OpenRefusal, profile_of};

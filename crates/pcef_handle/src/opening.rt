@@ -6,6 +6,7 @@ ghost use Rattle.pcef_built_in.specs.BuiltIn.{built_in_offers};
 ghost use Rattle.pcef_handle.specs.Opening.{OpensHandle, OpensText, ReadsProfile, Starts, StartsSession};
 
 use crate::held::{Handle, OpenSession};
+use crate::attached::MOST_FLOWS;
 use pcef_built_in::ShapedCatalog;
 use pcef_catalog::Offers;
 use pcef_line::LineReader;
@@ -61,10 +62,14 @@ fn world_of(
     let Ok(listing) = catalog.listing().share() else {
         return Err(OpenRefusal::NoMemory);
     };
-    match WorldState::open(alloc, profile, listing) {
-        Ok(world) => Ok(world),
-        Err(fault) => Err(OpenRefusal::Session(fault)),
+    let mut world = match WorldState::open(alloc, profile, listing) {
+        Ok(world) => world,
+        Err(fault) => return Err(OpenRefusal::Session(fault)),
+    };
+    if world.remember_flows(MOST_FLOWS).is_err() {
+        return Err(OpenRefusal::NoMemory);
     }
+    Ok(world)
 }
 
 impl OpenSession {

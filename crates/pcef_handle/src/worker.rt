@@ -5,7 +5,6 @@ ghost use Rattle.pcef_handle.specs.Working.{AbandonsWorker, AttachesWorker, Belo
 
 use crate::attached::{AttachRefusal, AttachedWorker, MeetRefusal, TakeRefusal};
 use crate::held::Handle;
-use pcef_front::{FrontFault, read_front};
 use pcef_packet::Dir;
 
 /// The state of a worker's handle: a worker, while one is attached.
@@ -41,11 +40,7 @@ impl WorkerHandle {
         let Some(worker) = &mut self.worker else {
             return Err(TakeRefusal::NoWorker);
         };
-        match read_front(dir, octets, whole) {
-            Ok(header) => worker.take(&header),
-            Err(FrontFault::Packet(fault)) => Err(TakeRefusal::NoPacket(fault)),
-            Err(FrontFault::TooFew) => Err(TakeRefusal::TooFew),
-        }
+        worker.take_packet(dir, octets, whole)
     }
 }
 

@@ -1,5 +1,7 @@
 pub mod ApartBeside
 pub mod ApartWorkers
+pub mod Briefs
+pub mod Followed
 pub mod StepsMore
 pub mod ToldReports
 pub mod WantOfMemory

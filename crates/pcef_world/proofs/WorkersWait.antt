@@ -13,7 +13,7 @@ use Rattle.pcef_model.specs.declared.row.Row.{Row}
 use Rattle.pcef_model.specs.Setting.{Setting}
 use Rattle.pcef_model.specs.Generations.{made_by, oldest}
 use Rattle.pcef_model.specs.Entries.{Journal, lane, rows}
-use Rattle.pcef_model.specs.Journals.{at, attach_count, attached, gen, verdict_at, lane_len, slots, tables}
+use Rattle.pcef_model.specs.Journals.{at, attach_count, attached, gen, verdict_at, lane_len, tables}
 use Rattle.pcef_model.specs.Reports.{after_attach, after_flush, after_leave, with_rows}
 use Rattle.pcef_model.proofs.AfterEvents.{tables_after_rows}
 use Rattle.pcef_session.specs.declared.batch.Item.{Item}

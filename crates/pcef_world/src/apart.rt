@@ -100,6 +100,7 @@ impl WorldState {
             return Err(AttachFault::NoMemory);
         };
         let ue = self.session.profile().ue;
+        self.is_followed = false;
         let number = self.session.attach()?;
         self.workers.push_reserved(None);
         Ok(ApartWorker {
@@ -127,6 +128,7 @@ impl WorldState {
         requires { IsApart self.old apart.old }
         ensures { FlushesApart self.old apart.old result self.new apart.new }
     {
+        self.is_followed = false;
         let number = apart.worker.number;
         let answer = apart.worker.flush(&mut self.session);
         // Read back, so that there is no branch here: where the rows were refused, the lane is as it was.
@@ -140,6 +142,7 @@ impl WorldState {
         requires { IsApart self.old apart.now }
         ensures { FinishesApart self.old apart.now result self.new }
     {
+        self.is_followed = false;
         apart.worker.finish(&mut self.session)
     }
 
@@ -148,6 +151,7 @@ impl WorldState {
         requires { IsApart self.old apart.now }
         ensures { AbandonsApart self.old apart.now result self.new }
     {
+        self.is_followed = false;
         Abandoned {
             waiting: apart.worker.waiting.len() as u8,
             rows: self.session.abandon(apart.worker.number),

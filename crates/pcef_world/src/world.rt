@@ -14,6 +14,7 @@ ghost use Rattle.pcef_world.specs.Worlds.{HasWorkersInTurn, IsOpenedWorld};
 ghost use Rattle.pcef_world.specs.private.Places.{after_coming};
 
 use crate::answer::{StepAnswer, attach_step_answer, command_step_answer};
+use crate::newest::JudgedFlows;
 use crate::places::{abandon_at, finish_at, flush_at, refresh_at, take_at};
 use crate::worker::WorldWorker;
 use pcef_catalog::{Detects, Listing};
@@ -30,6 +31,10 @@ pub struct WorldState {
     pub(crate) alloc: Global,
     pub(crate) session: SessionState,
     pub(crate) workers: Vec<Option<WorldWorker>>,
+    // The flows that were judged last, where they are remembered.
+    pub(crate) judged: Option<Box<JudgedFlows>>,
+    // Whether they are of the newest table, as far as is known: what may change it says that they aren't.
+    pub(crate) is_followed: bool,
 }
 
 // Written out, so that an owner proves one call on each return path.
@@ -39,6 +44,8 @@ impl Drop for WorldState {
             alloc: _,
             session: _,
             workers: _,
+            judged: _,
+            is_followed: _,
         } = self;
     }
 }
@@ -74,6 +81,8 @@ impl WorldState {
             alloc,
             session,
             workers: Vec::new(alloc),
+            judged: None,
+            is_followed: false,
         })
     }
 
@@ -134,6 +143,7 @@ impl WorldState {
         ensures setting { self.new.session.setting ≡ self.old.session.setting }
         ensures forgotten { self.new.session.forgotten ≡ self.old.session.forgotten }
     {
+        self.is_followed = false;
         command_step_answer(self.session.command(command))
     }
 
@@ -154,6 +164,7 @@ impl WorldState {
         let Ok(held) = newest(&self.session) else {
             return Err(AttachFault::NoMemory);
         };
+        self.is_followed = false;
         let number = self.session.attach()?;
         self.workers.push_reserved(Some(WorldWorker {
             number,
@@ -210,6 +221,7 @@ impl WorldState {
         ensures setting { self.new.session.setting ≡ self.old.session.setting }
         ensures forgotten { self.new.session.forgotten ≡ self.old.session.forgotten }
     {
+        self.is_followed = false;
         match self.workers.get_mut(usize::from(worker)) {
             None => Ok(StepAnswer::NoWorker),
             Some(place) => flush_at(place, &mut self.session),
@@ -222,6 +234,7 @@ impl WorldState {
         ensures setting { self.new.session.setting ≡ self.old.session.setting }
         ensures forgotten { self.new.session.forgotten ≡ self.old.session.forgotten }
     {
+        self.is_followed = false;
         match self.workers.get_mut(usize::from(worker)) {
             None => Ok(StepAnswer::NoWorker),
             Some(place) => finish_at(place, &mut self.session),
@@ -233,6 +246,7 @@ impl WorldState {
         ensures setting { self.new.session.setting ≡ self.old.session.setting }
         ensures forgotten { self.new.session.forgotten ≡ self.old.session.forgotten }
     {
+        self.is_followed = false;
         match self.workers.get_mut(usize::from(worker)) {
             None => StepAnswer::NoWorker,
             Some(place) => abandon_at(place, &mut self.session),

@@ -1,11 +1,12 @@
 -- What always holds of a world's parts.
-use Rattle.std.specs.Prelude.{◌≡◌, ◌≤◌, List, Option, length, map}
+use Rattle.std.specs.Prelude.{◌≡◌, ◌≤◌, true, IfSome, List, Option, length, map}
 use Rattle.std.specs.Option.{option_map}
 use Rattle.pcef_model.specs.Journals.{attach_count}
 use Rattle.pcef_world.specs.declared.world.WorldState.TheInside.{Inside}
 use Rattle.pcef_world.specs.declared.worker.WorldWorker.{WorldWorker}
 use Rattle.pcef_session.specs.SessionModel.{SessionModel}
 use Rattle.pcef_session.specs.Following.{row_of}
+use Rattle.pcef_world.specs.private.Followed.{FollowsNewest}
 use Rattle.pcef_world.specs.Workers.{AllWait, held_by}
 use Rattle.pcef_world.specs.Worlds.{Waiting, World}
 
@@ -23,4 +24,4 @@ pub record IsSoundWith (s : SessionModel) (workers : List (Option WorldWorker)) 
   pub wait : AllWait s.setting s.journal workers
 
 abbrev pub IsSoundWorld : Inside → Type 0
-IsSoundWorld w = IsSoundWith w.session w.workers.items
+IsSoundWorld w = IsSoundWith w.session w.workers.items × (w.is_followed ≡ true → IfSome w.judged (λ f. FollowsNewest w.session f.value))

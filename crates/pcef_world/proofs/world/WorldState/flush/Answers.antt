@@ -9,14 +9,17 @@ pub flush_at-requires : goal.flush_at-requires
 flush_at-requires c =
     let there : slice_get c.self.inside.workers.items c.from.result ≡ Some c.in-Some.place.now =
     slice_get_read c.self.inside.workers.items (length c.self.inside.workers.items) c.from.result c.in-Some.place.now refl c.in-Some.ensures.item.3.0 c.in-Some.ensures.value in
-    hands_if c.self.inside.session c.self.inside.workers.items c.from.result c.in-Some.place.now c.self.invariant there
+    hands_if c.self.inside.session c.self.inside.workers.items c.from.result c.in-Some.place.now c.self.invariant.0 there
 
 pub invariant_of-self-in-Some : goal.invariant_of-self-in-Some
-invariant_of-self-in-Some c =
-    let there : slice_get c.self.inside.workers.items c.from.result ≡ Some c.in-Some.place.now =
-    slice_get_read c.self.inside.workers.items (length c.self.inside.workers.items) c.from.result c.in-Some.place.now refl c.in-Some.ensures.item.3.0 c.in-Some.ensures.value in
-    sound_flushed c.self.inside.session c.flush_at.new.session c.self.inside.workers.items c.from.result c.in-Some.place.now c.flush_at.new.place c.flush_at.result c.self.invariant there
-    c.flush_at.ensures.answer c.flush_at.ensures.setting
+invariant_of-self-in-Some c = (
+  (
+      let there : slice_get c.self.inside.workers.items c.from.result ≡ Some c.in-Some.place.now =
+      slice_get_read c.self.inside.workers.items (length c.self.inside.workers.items) c.from.result c.in-Some.place.now refl c.in-Some.ensures.item.3.0 c.in-Some.ensures.value in
+      sound_flushed c.self.inside.session c.flush_at.new.session c.self.inside.workers.items c.from.result c.in-Some.place.now c.flush_at.new.place c.flush_at.result c.self.invariant.0 there
+      c.flush_at.ensures.answer c.flush_at.ensures.setting),
+  λ is. absurd cc,
+)
 
 pub returns-in-None-clause-answer : goal.returns-in-None-clause-answer
 returns-in-None-clause-answer c =
@@ -28,11 +31,11 @@ returns-in-Some-clause-answer c =
     let there : slice_get c.self.inside.workers.items c.from.result ≡ Some c.in-Some.place.now =
     slice_get_read c.self.inside.workers.items (length c.self.inside.workers.items) c.from.result c.in-Some.place.now refl c.in-Some.ensures.item.3.0 c.in-Some.ensures.value in
     rw (← c.self.view_is, ← c.from.ensures)
-    (flushes_answer c.self.inside.session c.flush_at.new.session c.self.inside.workers.items c.from.result c.in-Some.place.now c.flush_at.new.place c.flush_at.result c.self.invariant there c.flush_at.ensures.answer).0
+    (flushes_answer c.self.inside.session c.flush_at.new.session c.self.inside.workers.items c.from.result c.in-Some.place.now c.flush_at.new.place c.flush_at.result c.self.invariant.0 there c.flush_at.ensures.answer).0
 
 pub returns-in-Some-clause-lacks : goal.returns-in-Some-clause-lacks
 returns-in-Some-clause-lacks c =
     let there : slice_get c.self.inside.workers.items c.from.result ≡ Some c.in-Some.place.now =
     slice_get_read c.self.inside.workers.items (length c.self.inside.workers.items) c.from.result c.in-Some.place.now refl c.in-Some.ensures.item.3.0 c.in-Some.ensures.value in
     rw (← c.self.view_is, ← c.from.ensures)
-    (flushes_answer c.self.inside.session c.flush_at.new.session c.self.inside.workers.items c.from.result c.in-Some.place.now c.flush_at.new.place c.flush_at.result c.self.invariant there c.flush_at.ensures.answer).1
+    (flushes_answer c.self.inside.session c.flush_at.new.session c.self.inside.workers.items c.from.result c.in-Some.place.now c.flush_at.new.place c.flush_at.result c.self.invariant.0 there c.flush_at.ensures.answer).1

@@ -6,10 +6,13 @@ use Rattle.pcef_world.proofs.WorldSteps.{sound_refreshed}
 use Rattle.pcef_world.proofs.world.WorldState.refresh.Goals as goal
 
 pub invariant_of-self-2 : goal.invariant_of-self-2
-invariant_of-self-2 c =
-    let there : slice_get c.self.inside.workers.items c.from.result ≡ Some c.in-Some.place.now =
-    slice_get_read c.self.inside.workers.items (length c.self.inside.workers.items) c.from.result c.in-Some.place.now refl c.in-Some.ensures.item.3.0 c.in-Some.ensures.value in
-    sound_refreshed c.self.inside.session c.self.inside.workers.items c.from.result c.in-Some.place.now c.refresh_at.new.place c.refresh_at.result c.self.invariant there c.refresh_at.ensures
+invariant_of-self-2 c = (
+  (
+      let there : slice_get c.self.inside.workers.items c.from.result ≡ Some c.in-Some.place.now =
+      slice_get_read c.self.inside.workers.items (length c.self.inside.workers.items) c.from.result c.in-Some.place.now refl c.in-Some.ensures.item.3.0 c.in-Some.ensures.value in
+      sound_refreshed c.self.inside.session c.self.inside.workers.items c.from.result c.in-Some.place.now c.refresh_at.new.place c.refresh_at.result c.self.invariant.0 there c.refresh_at.ensures),
+  c.self.invariant.1,
+)
 
 pub returns-in_default-clause-answer : goal.returns-in_default-clause-answer
 returns-in_default-clause-answer c =

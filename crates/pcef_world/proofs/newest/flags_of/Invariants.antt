@@ -1,6 +1,6 @@
 use Rattle.std.proofs.Common.{◌≡◌, drop}
-use Rattle.pcef_c.specs.Judging.{flags_of}
-use Rattle.pcef_c.proofs.judging.flags_of.Given as goal
+use Rattle.pcef_world.specs.Newest.{flags_of}
+use Rattle.pcef_world.proofs.newest.flags_of.Given as goal
 
 -- the slots that are left bring the flags to those of all
 abbrev pub invariant-loop-slot : goal.invariant-loop-slot
