@@ -3,11 +3,14 @@
 //! for each filter that lets it pass. A packet's four rows and its protocol's are joined word by word; the first bit left
 //! names the filter. Rows are exact: nothing is confirmed.
 //!
-//! usage: bits RULES PACKETS PASSES ADDRESS     as `bench_pcef classify`, with its formats and its output
+//! usage: bits RULES PACKETS PASSES ADDRESS           as `bench_pcef classify`, with its formats and its output
+//!        bits RULES PACKETS PASSES ADDRESS worker    a worker with an `Arc` of the index of its own: a packet becomes a
+//!                                                    row, and 32 rows are added up under a lock
 //!        bits RULES build TIMES
 use std::env;
 use std::fs;
 use std::net::IpAddr;
+use std::sync::{Arc, Mutex};
 
 #[derive(Clone, Copy, PartialEq)]
 enum Place {
@@ -95,46 +98,82 @@ fn read_rules(path: &str) -> (Vec<String>, Vec<Filter>) {
     (rules.iter().map(|rule| rule.1.clone()).collect(), filters.collect())
 }
 
-/// A row of bits for each interval, and where each interval but the first begins.
+/// A value with an order, in intervals.
+trait Value: Ord + Copy {
+    const LEAST: Self;
+
+    /// Its leading octet.
+    fn front(self) -> usize;
+
+    /// The one behind it, if there is one.
+    fn next(self) -> Option<Self>;
+}
+
+macro_rules! values {
+    ($($kind:ty)*) => {$(
+        impl Value for $kind {
+            const LEAST: Self = 0;
+
+            fn front(self) -> usize {
+                (self >> (<$kind>::BITS - 8)) as usize
+            }
+
+            fn next(self) -> Option<Self> {
+                self.checked_add(1)
+            }
+        }
+    )*};
+}
+
+values!(u16 u32 u128);
+
+/// A row of bits for each interval, where each interval but the first begins, and how many begin below each leading octet.
 struct Field<T> {
     begins: Vec<T>,
+    below: [u32; 257],
     rows: Vec<u64>,
     words: usize,
 }
 
-impl<T: Ord + Copy> Field<T> {
-    /// Of these spans, some for each filter: where each begins, and what comes behind it, if anything does.
-    fn new(spans: &[Vec<(T, Option<T>)>], least: T) -> Field<T> {
+impl<T: Value> Field<T> {
+    /// Of these spans, some for each filter, each from its first value to its last.
+    fn new(spans: &[Vec<(T, T)>]) -> Field<T> {
         let words = spans.len().div_ceil(64);
-        let mut begins: Vec<T> = spans.iter().flatten().flat_map(|(from, to)| [Some(*from), *to]).flatten().filter(|at| *at > least).collect();
+        let ends = spans.iter().flatten().flat_map(|(from, to)| [Some(*from), to.next()]);
+        let mut begins: Vec<T> = ends.flatten().filter(|at| *at > T::LEAST).collect();
         begins.sort();
         begins.dedup();
         let mut rows = vec![0; (begins.len() + 1) * words];
         for (number, spans) in spans.iter().enumerate() {
             for (from, to) in spans {
-                let first = begins.partition_point(|at| at <= from);
-                let behind = to.map_or(begins.len() + 1, |to| begins.partition_point(|at| *at < to) + 1);
-                for row in first..behind {
+                let [first, last] = [from, to].map(|end| begins.partition_point(|at| at <= end));
+                for row in first..=last {
                     rows[row * words + number / 64] |= 1 << (number % 64);
                 }
             }
         }
-        Field { begins, rows, words }
+        let mut below = [0; 257];
+        for (front, below) in below.iter_mut().enumerate() {
+            *below = begins.partition_point(|at| at.front() < front) as u32;
+        }
+        Field { begins, below, rows, words }
     }
 
     #[inline]
     fn row(&self, value: T) -> &[u64] {
-        let place = self.begins.partition_point(|at| *at <= value);
+        let [from, to] = [0, 1].map(|next| self.below[value.front() + next] as usize);
+        let place = from + self.begins[from..to].partition_point(|at| *at <= value);
         &self.rows[place * self.words..(place + 1) * self.words]
     }
 }
 
-/// The filters that apply in a direction, of one version.
-struct Part {
+/// The filters that apply in a direction, of one version. Filters for other local addresses than the session's are left
+/// out; in version 6 those that look at the half of the address that isn't the session's have rows for it.
+struct Part<T> {
     rules: Vec<u8>,
     protos: Vec<u64>,
-    remote: Field<u128>,
-    local: Field<u128>,
+    remote: Field<T>,
+    local: Option<Field<T>>,
     far: Field<u16>,
     near: Field<u16>,
     far_without: Vec<u64>,
@@ -142,25 +181,39 @@ struct Part {
     words: usize,
 }
 
-fn span(place: Place, is_wide: bool, ue: u128) -> Vec<(u128, Option<u128>)> {
-    match place {
-        Place::Any => vec![(0, None)],
-        Place::Assigned if is_wide => vec![(ue >> 64 << 64, (ue >> 64).checked_add(1).map(|next| next << 64))],
-        Place::Assigned => vec![(ue, Some(ue + 1))],
-        Place::Net(_, _, other) if other != is_wide => vec![],
-        Place::Net(_, 128, _) => vec![(0, None)],
-        Place::Net(addr, loose, _) => {
-            let first = addr >> loose << loose;
-            vec![(first, first.checked_add(1 << loose))]
-        }
+/// An address of one of the versions.
+trait Address: Value + TryFrom<u128> {
+    const IS_WIDE: bool;
+
+    fn of(value: u128) -> Self {
+        Self::try_from(value).ok().expect("an address of the version")
     }
 }
 
-fn port_spans(ranges: &[(u16, u16)]) -> Vec<(u16, Option<u16>)> {
-    if ranges.is_empty() {
-        return vec![(0, None)];
+impl Address for u32 {
+    const IS_WIDE: bool = false;
+}
+
+impl Address for u128 {
+    const IS_WIDE: bool = true;
+}
+
+/// The first and the last address of a place.
+fn span(place: Place, is_wide: bool, ue: u128) -> Option<(u128, u128)> {
+    let greatest = if is_wide { u128::MAX } else { u128::from(u32::MAX) };
+    let loose_of = |addr: u128, loose: u32| {
+        let rest = if loose == 128 { u128::MAX } else { (1 << loose) - 1 };
+        (addr & !rest, addr | rest)
+    };
+    match place {
+        Place::Any => Some((0, greatest)),
+        Place::Assigned => Some(loose_of(ue, if is_wide { 64 } else { 0 })),
+        Place::Net(addr, loose, of_wide) => (of_wide == is_wide).then(|| loose_of(addr, loose)),
     }
-    ranges.iter().map(|(low, high)| (*low, high.checked_add(1))).collect()
+}
+
+fn port_spans(ranges: &[(u16, u16)]) -> Vec<(u16, u16)> {
+    if ranges.is_empty() { vec![(0, u16::MAX)] } else { ranges.to_vec() }
 }
 
 fn bits(count: usize, is_set: impl Fn(usize) -> bool) -> Vec<u64> {
@@ -171,19 +224,24 @@ fn bits(count: usize, is_set: impl Fn(usize) -> bool) -> Vec<u64> {
     row
 }
 
-impl Part {
-    fn new(filters: &[Filter], direction: usize, is_wide: bool, ue: u128) -> Part {
-        let filters: Vec<&Filter> = filters.iter().filter(|filter| filter.directions[direction]).collect();
+impl<T: Address> Part<T> {
+    fn new(filters: &[Filter], direction: usize, ue: u128) -> Part<T> {
+        let (first, last) = span(Place::Assigned, T::IS_WIDE, ue).unwrap();
+        let is_met = |place| span(place, T::IS_WIDE, ue).is_some_and(|(from, to)| from <= last && first <= to);
+        let filters: Vec<&Filter> = filters.iter().filter(|filter| filter.directions[direction] && is_met(filter.local)).collect();
         let count = filters.len();
-        let each = |spans: &dyn Fn(&Filter) -> Vec<(u16, Option<u16>)>| filters.iter().map(|filter| spans(filter)).collect::<Vec<_>>();
-        let places = |place: &dyn Fn(&Filter) -> Place| filters.iter().map(|filter| span(place(filter), is_wide, ue)).collect::<Vec<_>>();
+        let spans_of = |place: &dyn Fn(&Filter) -> Place| {
+            let spans = filters.iter().map(|filter| span(place(filter), T::IS_WIDE, ue));
+            spans.map(|span| span.map(|(from, to)| (T::of(from), T::of(to))).into_iter().collect()).collect::<Vec<_>>()
+        };
+        let is_whole = |filter: &&Filter| span(filter.local, T::IS_WIDE, ue).is_some_and(|(from, to)| from <= first && last <= to);
         Part {
             rules: filters.iter().map(|filter| filter.rule as u8).collect(),
             protos: (0..=255).flat_map(|proto| bits(count, |number| filters[number].proto.is_none_or(|own| own == proto))).collect(),
-            remote: Field::new(&places(&|filter| filter.remote), 0),
-            local: Field::new(&places(&|filter| filter.local), 0),
-            far: Field::new(&each(&|filter| port_spans(&filter.far)), 0),
-            near: Field::new(&each(&|filter| port_spans(&filter.near)), 0),
+            remote: Field::new(&spans_of(&|filter| filter.remote)),
+            local: (!filters.iter().all(is_whole)).then(|| Field::new(&spans_of(&|filter| filter.local))),
+            far: Field::new(&filters.iter().map(|filter| port_spans(&filter.far)).collect::<Vec<_>>()),
+            near: Field::new(&filters.iter().map(|filter| port_spans(&filter.near)).collect::<Vec<_>>()),
             far_without: bits(count, |number| filters[number].far.is_empty()),
             near_without: bits(count, |number| filters[number].near.is_empty()),
             words: count.div_ceil(64),
@@ -191,16 +249,18 @@ impl Part {
     }
 
     #[inline]
-    fn first(&self, header: &Header) -> Option<u8> {
+    fn first(&self, header: &Header<T>) -> Option<u8> {
         let proto = usize::from(header.proto) * self.words;
         let protos = &self.protos[proto..proto + self.words];
-        let (remote, local) = (self.remote.row(header.remote), self.local.row(header.local));
+        let remote = self.remote.row(header.remote);
+        let local = self.local.as_ref().map_or(remote, |local| local.row(header.local));
         let (far, near) = match header.ports {
             Some((far, near)) => (self.far.row(far), self.near.row(near)),
             None => (&self.far_without[..], &self.near_without[..]),
         };
-        for word in 0..self.words {
-            let left = protos[word] & remote[word] & local[word] & far[word] & near[word];
+        let rows = remote.iter().zip(local).zip(far).zip(near).zip(protos);
+        for (word, ((((remote, local), far), near), proto)) in rows.enumerate() {
+            let left = remote & local & far & near & proto;
             if left != 0 {
                 return Some(self.rules[word * 64 + left.trailing_zeros() as usize]);
             }
@@ -209,10 +269,9 @@ impl Part {
     }
 }
 
-struct Header {
-    is_wide: bool,
-    remote: u128,
-    local: u128,
+struct Header<T> {
+    remote: T,
+    local: T,
     proto: u8,
     ports: Option<(u16, u16)>,
     octets: u64,
@@ -223,38 +282,47 @@ fn pair(octets: &[u8], at: usize) -> u16 {
 }
 
 #[inline]
-fn header(direction: usize, octets: &[u8]) -> Option<Header> {
-    let is_wide = octets.first()? >> 4 == 6;
-    let (source, target, mut proto, mut at, is_first, total);
-    if is_wide {
-        let (fixed, _) = octets.split_at_checked(40)?;
-        source = u128::from_be_bytes(fixed[8..24].try_into().ok()?);
-        target = u128::from_be_bytes(fixed[24..40].try_into().ok()?);
-        total = 40 + u64::from(pair(fixed, 4));
-        (proto, at) = (fixed[6], 40);
-        is_first = proto != 44;
-        if proto == 44 {
-            proto = *octets.get(40)?;
-            at = 48;
-        }
-    } else {
-        let (fixed, _) = octets.split_at_checked(20)?;
-        source = u128::from(u32::from_be_bytes(fixed[12..16].try_into().ok()?));
-        target = u128::from(u32::from_be_bytes(fixed[16..20].try_into().ok()?));
-        (proto, total) = (fixed[9], u64::from(pair(fixed, 2)));
-        at = usize::from(fixed[0] & 15) * 4;
-        is_first = pair(fixed, 6) & 0x1fff == 0;
+fn ports(direction: usize, octets: &[u8], at: usize, proto: u8) -> Option<(u16, u16)> {
+    if !matches!(proto, 6 | 17 | 132) || octets.len() < at + 4 {
+        return None;
     }
-    let has_ports = is_first && matches!(proto, 6 | 17 | 132 | 33 | 136) && octets.len() >= at + 4;
-    let swapped = direction == 0;
-    let ports = has_ports.then(|| (pair(octets, at), pair(octets, at + 2)));
-    let (remote, local) = if swapped { (target, source) } else { (source, target) };
-    let ports = ports.map(|(source, target)| if swapped { (target, source) } else { (source, target) });
-    Some(Header { is_wide, remote, local, proto, ports, octets: total })
+    let (source, target) = (pair(octets, at), pair(octets, at + 2));
+    Some(if direction == 0 { (target, source) } else { (source, target) })
+}
+
+#[inline]
+fn narrow(direction: usize, octets: &[u8]) -> Option<Header<u32>> {
+    let fixed: &[u8; 20] = octets.first_chunk()?;
+    let (own, total) = (usize::from(fixed[0] & 15) * 4, usize::from(pair(fixed, 2)));
+    if fixed[0] >> 4 != 4 || own < 20 || total < own || total > octets.len() {
+        return None;
+    }
+    let [source, target] = [12, 16].map(|at| u32::from_be_bytes([fixed[at], fixed[at + 1], fixed[at + 2], fixed[at + 3]]));
+    let (remote, local) = if direction == 0 { (target, source) } else { (source, target) };
+    let is_first = pair(fixed, 6) & 0x1fff == 0;
+    let ports = if is_first { ports(direction, &octets[..total], own, fixed[9]) } else { None };
+    Some(Header { remote, local, proto: fixed[9], ports, octets: total as u64 })
+}
+
+/// Of extension headers it knows the fragment header alone.
+#[inline]
+fn wide(direction: usize, octets: &[u8]) -> Option<Header<u128>> {
+    let fixed: &[u8; 40] = octets.first_chunk()?;
+    let total = 40 + usize::from(pair(fixed, 4));
+    if total > octets.len() {
+        return None;
+    }
+    let [source, target] = [8, 24].map(|at| u128::from_be_bytes(fixed[at..at + 16].try_into().unwrap()));
+    let (remote, local) = if direction == 0 { (target, source) } else { (source, target) };
+    let is_fragment = fixed[6] == 44;
+    let proto = if is_fragment { *octets.get(40)? } else { fixed[6] };
+    let ports = if is_fragment { None } else { ports(direction, &octets[..total], 40, proto) };
+    Some(Header { remote, local, proto, ports, octets: total as u64 })
 }
 
 struct Index {
-    parts: [[Part; 2]; 2],
+    narrow: [Part<u32>; 2],
+    wide: [Part<u128>; 2],
     ue: u128,
     is_wide: bool,
 }
@@ -266,21 +334,38 @@ enum Verdict {
 }
 
 impl Index {
-    fn new(filters: &[Filter], ue: (u128, bool)) -> Index {
-        let of = |direction| [false, true].map(|is_wide| Part::new(filters, direction, is_wide, ue.0));
-        Index { parts: [of(0), of(1)], ue: ue.0, is_wide: ue.1 }
+    fn new(filters: &[Filter], (ue, is_wide): (u128, bool)) -> Index {
+        // The parts of the version that isn't the session's are empty.
+        let (narrow, wide): (&[Filter], &[Filter]) = if is_wide { (&[], filters) } else { (filters, &[]) };
+        Index {
+            narrow: [0, 1].map(|direction| Part::new(narrow, direction, if is_wide { 0 } else { ue })),
+            wide: [0, 1].map(|direction| Part::new(wide, direction, ue)),
+            ue,
+            is_wide,
+        }
     }
 
+    /// The verdict on a packet, and its octets; nothing where it is none.
     #[inline]
-    fn judge(&self, direction: usize, header: &Header) -> Verdict {
-        let differs = header.local ^ self.ue;
-        if header.is_wide != self.is_wide || (if self.is_wide { differs >> 64 } else { differs }) != 0 {
+    fn judge(&self, direction: usize, octets: &[u8]) -> Option<(Verdict, u64)> {
+        if octets.first()? >> 4 == 6 {
+            let header = wide(direction, octets)?;
+            let is_own = self.is_wide && (header.local ^ self.ue) >> 64 == 0;
+            return Some((self.wide[direction].verdict(&header, is_own), header.octets));
+        }
+        let header = narrow(direction, octets)?;
+        let is_own = !self.is_wide && u128::from(header.local) == self.ue;
+        Some((self.narrow[direction].verdict(&header, is_own), header.octets))
+    }
+}
+
+impl<T: Address> Part<T> {
+    #[inline]
+    fn verdict(&self, header: &Header<T>, is_own: bool) -> Verdict {
+        if !is_own {
             return Verdict::Stray;
         }
-        match self.parts[direction][usize::from(header.is_wide)].first(header) {
-            Some(rule) => Verdict::Rule(rule),
-            None => Verdict::Unmatched,
-        }
+        self.first(header).map_or(Verdict::Unmatched, Verdict::Rule)
     }
 }
 
@@ -291,6 +376,42 @@ fn each(packets: &[u8], mut act: impl FnMut(usize, &[u8])) {
         act(usize::from(left[2] != 0), &left[3..3 + length]);
         left = &left[3 + length..];
     }
+}
+
+/// What a packet counts for, until it is handed over.
+struct Row {
+    rule: Option<u8>,
+    octets: u64,
+}
+
+/// Octets and packets of each rule, and of those that none fits.
+type Books = Mutex<[(u64, u64); 65]>;
+
+fn hand_over(rows: &mut Vec<Row>, books: &Books) {
+    let mut books = books.lock().unwrap();
+    for row in rows.drain(..) {
+        let entry = &mut books[row.rule.map_or(64, usize::from)];
+        *entry = (entry.0 + row.octets, entry.1 + 1);
+    }
+}
+
+fn work(index: Arc<Index>, books: &Books, packets: &[u8], passes: u32) {
+    let mut rows = Vec::with_capacity(32);
+    for _ in 0..passes {
+        each(packets, |direction, packet| {
+            if let Some((verdict, octets)) = index.judge(direction, packet) {
+                let rule = match verdict {
+                    Verdict::Rule(rule) => Some(rule),
+                    Verdict::Unmatched | Verdict::Stray => None,
+                };
+                rows.push(Row { rule, octets });
+                if rows.len() == 32 {
+                    hand_over(&mut rows, books);
+                }
+            }
+        });
+    }
+    hand_over(&mut rows, books);
 }
 
 fn main() {
@@ -306,11 +427,17 @@ fn main() {
     }
     let (index, file) = (Index::new(&filters, ue), fs::read(&words[1]).unwrap());
     let packets = &file[4..];
+    if words.len() == 5 {
+        let books = Mutex::new([(0, 0); 65]);
+        work(Arc::new(index), &books, packets, passes);
+        let sums = books.lock().unwrap().iter().fold((0, 0), |sums, one| (sums.0 + one.0, sums.1 + one.1));
+        return println!("rows {} octets {}", sums.1, sums.0);
+    }
     if passes == 0 {
         let mut lines = String::new();
         each(packets, |direction, octets| {
-            if let Some(header) = header(direction, octets) {
-                lines += match index.judge(direction, &header) {
+            if let Some((verdict, _)) = index.judge(direction, octets) {
+                lines += match verdict {
                     Verdict::Rule(rule) => &names[usize::from(rule)],
                     Verdict::Unmatched => "unmatched",
                     Verdict::Stray => "stray",
@@ -323,9 +450,9 @@ fn main() {
     let (mut passed, mut unmatched, mut stray, mut octets) = (0u64, 0u64, 0u64, 0u64);
     for _ in 0..passes {
         each(packets, |direction, packet| {
-            if let Some(header) = header(direction, packet) {
-                octets += header.octets;
-                match index.judge(direction, &header) {
+            if let Some((verdict, own)) = index.judge(direction, packet) {
+                octets += own;
+                match verdict {
                     Verdict::Rule(_) => passed += 1,
                     Verdict::Unmatched => unmatched += 1,
                     Verdict::Stray => stray += 1,

@@ -4,84 +4,25 @@
 usage: worst.py FOLDER
 
 For each set FOLDER gets NAME.rules, NAME.packets, NAME.ue (the session's address) and NAME.expected (a rule's name or
-`unmatched` for each packet), in the formats of bench_pcef. Each set has 64 rules of 16 filters, unless its text says
-otherwise. The sets are the same in each run.
+`unmatched` for each packet), in the formats of bench_pcef. Each set has 64 rules of 16 filters, for downlink packets.
+The sets are the same in each run.
 """
 import ipaddress
 import os
 import random
-import struct
 import sys
+
+import model
+from model import Filter, Table, write_set
 
 UE4, UE6 = ipaddress.ip_address("10.0.0.2"), ipaddress.ip_address("2001:db8:aa:bb::2")
 RULES, FILTERS = 64, 16
-UP, DOWN = 0, 1
 
 
-def ports_text(ranges):
-    return "".join([" "] + [",".join(str(low) if low == high else f"{low}-{high}" for low, high in ranges)]) if ranges else ""
-
-
-class Filter:
-    """A filter for downlink packets. A place is None for any, "assigned", or a network; ranges are pairs, up to eight."""
-
-    def __init__(self, proto=None, remote=None, local=None, far=(), near=()):
-        self.proto, self.far, self.near = proto, list(far), list(near)
-        self.remote, self.local = (ipaddress.ip_network(place, strict=False) if place not in (None, "assigned") else place
-                                   for place in (remote, local))
-
-    def text(self):
-        place = [str(place) if place else "any" for place in (self.remote, self.local)]
-        proto = "ip" if self.proto is None else self.proto
-        return f"permit out {proto} from {place[0]}{ports_text(self.far)} to {place[1]}{ports_text(self.near)}"
-
-    def fits(self, packet):
-        for place, address in ((self.remote, packet.remote), (self.local, packet.local)):
-            if place not in (None, "assigned") and address not in place:
-                return False
-        for ranges, port in ((self.far, packet.far), (self.near, packet.near)):
-            if ranges and (port is None or not any(low <= port <= high for low, high in ranges)):
-                return False
-        return self.proto in (None, packet.proto)
-
-
-class Packet:
-    """A downlink packet. Without ports it is a later fragment, where its protocol has ports."""
-
-    def __init__(self, proto=17, remote="198.51.100.7", local=None, far=None, near=None):
-        self.remote = ipaddress.ip_address(remote)
-        self.local = ipaddress.ip_address(local) if local else UE4 if self.remote.version == 4 else UE6
-        self.proto, self.far, self.near = proto, far, near
-
-    def octets(self):
-        is_fragment = self.far is None and self.proto in (6, 17)
-        body = bytes(20) if self.far is None else struct.pack(">HH", self.far, self.near) + bytes(16)
-        if self.remote.version == 4:
-            return struct.pack(">BBHHHBBH", 0x45, 0, 20 + len(body), 1, 5 if is_fragment else 0, 64, self.proto, 0) + (
-                self.remote.packed + self.local.packed + body)
-        if is_fragment:
-            body = struct.pack(">BBHI", self.proto, 0, 5 << 3, 1) + body
-        return struct.pack(">IHBB", 6 << 28, len(body), 44 if is_fragment else self.proto, 64) + (
-            self.remote.packed + self.local.packed + body)
-
-
-def write(folder, name, filters, packets, ue=UE4):
-    """`filters` are those of all rules, in order."""
-    base, each = os.path.join(folder, name), -(-len(filters) // RULES)
-    named = [(f"r{place // each:02}", filter_) for place, filter_ in enumerate(filters)]
-    with open(f"{base}.rules", "w") as file:
-        for rule, filter_ in named:
-            file.write(f"{rule} {1 + int(rule[1:])} - {filter_.text()}\n")
-    with open(f"{base}.packets", "wb") as file:
-        file.write(struct.pack("<I", len(packets)))
-        for packet in packets:
-            octets = packet.octets()
-            file.write(struct.pack("<HB", len(octets), DOWN) + octets)
-    with open(f"{base}.expected", "w") as file:
-        for packet in packets:
-            file.write(next((rule for rule, filter_ in named if filter_.fits(packet)), "unmatched") + "\n")
-    with open(f"{base}.ue", "w") as file:
-        file.write(f"{ue}\n")
+def Packet(**fields):
+    """A packet of the session, of the version of its remote address."""
+    fields.setdefault("local", str(UE6 if ":" in fields.get("remote", "") else UE4))
+    return model.Packet(**fields)
 
 
 def all_alike(make):
@@ -359,13 +300,13 @@ SETS = {
 }
 
 
-def main():
-    folder = sys.argv[1]
+def write_sets(folder):
     os.makedirs(folder, exist_ok=True)
     for name, make in SETS.items():
         filters, packets = make()
-        write(folder, name, filters, packets, UE4 if packets[0].remote.version == 4 else UE6)
+        rules = [(f"r{rule:02}", filters[rule * FILTERS:(rule + 1) * FILTERS]) for rule in range(RULES)]
+        write_set(folder, name, Table(rules, UE4 if packets[0].remote.version == 4 else UE6), packets)
 
 
 if __name__ == "__main__":
-    main()
+    write_sets(sys.argv[1])
