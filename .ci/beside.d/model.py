@@ -61,7 +61,8 @@ class Packet:
         body += bytes(max(0, self.length - len(body) - (20 if self.remote.version == 4 else 40)))
         packed = ends[0].packed + ends[1].packed
         if self.remote.version == 4:
-            return struct.pack(">BBHHHBBH", 0x45, 0, 20 + len(body), 1, 5 if is_fragment else 0, 64, self.proto, 0) + packed + body
+            place = 5 if is_fragment else 0
+            return struct.pack(">BBHHHBBH", 0x45, 0, 20 + len(body), 1, place, 64, self.proto, 0) + packed + body
         if is_fragment:
             body = struct.pack(">BBHI", self.proto, 0, 5 << 3, 1) + body
         return struct.pack(">IHBB", 6 << 28, len(body), 44 if is_fragment else self.proto, 64) + packed + body

@@ -5,6 +5,7 @@ import re
 import shutil
 import subprocess
 import sys
+import time
 
 FOLDER = "out/beside"
 SOURCES = ".ci/beside.d"
@@ -33,7 +34,7 @@ class Ours:
     """A program of this repository, or the library for C: the proved build, or one without proof."""
 
     def __init__(self, crate, is_quick):
-        name = f"libpcef_c" if crate == "pcef_c" else crate
+        name = "libpcef_c" if crate == "pcef_c" else crate
         end = ".a" if crate == "pcef_c" else ""
         proved, quick = f"crates/{crate}/out/{name}{end}", f"crates/{crate}/out/quick/{name}.unchecked{end}"
         self.crate = crate
@@ -119,8 +120,8 @@ def instructions_each(words_of, few, many, each=1, **how):
     return (instructions(words_of(many), **how) - instructions(words_of(few), **how)) / (many - few) / each
 
 
-def usage(words, stdin=None, stdout=os.devnull):
-    """Seconds of a processor, and the most octets of memory that a run had."""
+def seconds(words, stdin=None, stdout=os.devnull):
+    """Seconds of a processor that a run took."""
     with open(stdin or os.devnull, "rb") as given, open(stdout, "wb") as taken:
         process = subprocess.Popen([*map(str, words)], stdin=given, stdout=taken, stderr=subprocess.PIPE)
         said = process.stderr.read()
@@ -128,11 +129,26 @@ def usage(words, stdin=None, stdout=os.devnull):
         process.returncode = status
     if status:
         fail(f"{words[0]} ends with {status}: {said[-400:].decode(errors='replace')}")
-    return used.ru_utime + used.ru_stime, used.ru_maxrss * 1024
+    return used.ru_utime + used.ru_stime
+
+
+def most_resident(words, stdin):
+    """The most octets of memory that a run had. It is asked again and again: what wait4() tells has our own in it."""
+    most = 0
+    with open(stdin, "rb") as given:
+        process = subprocess.Popen([*map(str, words)], stdin=given, stdout=subprocess.DEVNULL)
+        while process.poll() is None:
+            with open(f"/proc/{process.pid}/status", encoding="ascii") as file:
+                told = re.search(r"^VmHWM:\s*(\d+) kB", file.read(), re.M)
+            most = max(most, int(told[1]) * 1024 if told else 0)
+            time.sleep(0.002)
+    if process.returncode:
+        fail(f"{words[0]} ends with {process.returncode}")
+    return most
 
 
 def least_seconds(words, times=3, **how):
-    return min(usage(words, **how)[0] for _ in range(times))
+    return min(seconds(words, **how) for _ in range(times))
 
 
 def time_each(words_of, few, many, each):

@@ -283,7 +283,8 @@ def nested_ends(both):
 
 SETS = {
     "half_networks": half_networks, "networks_29": networks_of(29), "networks_32": networks_of(32),
-    "networks_17": networks_of(17), "meeting_ranges": meeting_ranges, "meeting_ends": meeting_ends, "meeting_alike": meeting_alike,
+    "networks_17": networks_of(17), "meeting_ranges": meeting_ranges, "meeting_ends": meeting_ends,
+    "meeting_alike": meeting_alike,
     "crossed_remote": crossed_ports("remote"), "crossed_local": crossed_ports("local"),
     "crossed_behind_remote": crossed_ports("both"), "heavy_remote": heavy_ends(("remote",)),
     "heavy_local": heavy_ends(("local",)), "heavy_both": heavy_ends(("remote", "local")),
