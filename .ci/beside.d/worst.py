@@ -281,6 +281,25 @@ def nested_ends(both):
     return make
 
 
+def thinned(is_wide):
+    """One range of each filter ends at a port of its own, on both sides in opposite order, so 1,024 ports a side. Where the
+    index keeps a choice of 1,023 ends, by their weight, sixteen filters a side that a packet just misses lie within its
+    intervals. The last of eight ranges decides, behind addresses that fit."""
+    def make():
+        shared = [(500 + 100 * n, 550 + 100 * n) for n in range(7)]
+        def make_filter(r, k):
+            n = 16 * r + k
+            # Fourteen ends more move the intervals of the two sides to where they meet.
+            near = shared[:6] + [(39000, 40000 + n)] if n < 14 else shared
+            return Filter(proto=17, remote="2001:db8:1::/127" if is_wide else "198.51.100.6/31",
+                          local=str(UE6 if is_wide else UE4), far=shared + [(20000, 30000 + n)],
+                          near=near + [(20000, 40014 + 1023 - n)])
+        return (all_alike(make_filter),
+                [Packet(remote="2001:db8:1::1" if is_wide else "198.51.100.7", far=30016 + 17 * n, near=41022 - 17 * n)
+                 for n in range(1, 59)])
+    return make
+
+
 SETS = {
     "half_networks": half_networks, "networks_29": networks_of(29), "networks_32": networks_of(32),
     "networks_17": networks_of(17), "meeting_ranges": meeting_ranges, "meeting_ends": meeting_ends,
@@ -294,6 +313,7 @@ SETS = {
     "any_ranges": any_ranges, "any_wide_ranges": any_wide_ranges, "doubled_ranges": doubled_ranges,
     "crossed_wide": crossed_wide, "steps_in_one_octet": steps_in_one_octet,
     "many_ends_in_one_octet": many_ends_in_one_octet, "few_steps_too_many": few_steps_too_many,
+    "thinned": thinned(False), "thinned_wide": thinned(True),
     "nested_ends": nested_ends(False), "nested_ends_on_both_sides": nested_ends(True),
     "narrow_for_wide": other_version(6), "wide_for_narrow": other_version(4), "local_hosts": local_hosts,
     **{f"local_host_{octet:02}": local_host_octet(octet) for octet in range(8, 16)},
