@@ -24,7 +24,7 @@ use pcef_command_line::{gather, refuse, report_no_memory};
 use pcef_explain::read_text;
 use pcef_model::Profile;
 use pcef_profile::{ReadProfileFault, explain, read_profile};
-use serving::{Keys, serve_in, serve_lines};
+use serving::{Keys, serve_here, serve_in};
 use std::io::{self, ErrorKind};
 use std::process::ExitCode;
 use std::rt::Clock;
@@ -58,7 +58,7 @@ fn report_profile_fault<'a>(
     End::Profile
 }
 
-/// Serves lines, in as many threads as there are to be.
+/// Serves lines or frames, in as many threads as there are to be.
 fn serve<'a, T: Threads + Wait + Clock + Drop + Send + Sync + Copy + 'static>(
     starting: T,
     rt: &HostRuntime,
@@ -70,9 +70,12 @@ fn serve<'a, T: Threads + Wait + Clock + Drop + Send + Sync + Copy + 'static>(
         catalog,
         profile,
         keys,
+        has_frames,
     } = served;
     if threads == 1 {
-        serve_lines(starting, rt, catalog, profile, keys.names, notes)
+        serve_here(
+            starting, rt, catalog, profile, keys.names, has_frames, notes,
+        )
     } else {
         serve_in(starting, rt, threads, &profile, keys, notes)
     }
@@ -84,6 +87,7 @@ struct Served {
     catalog: ShapedCatalog,
     profile: Profile,
     keys: Keys,
+    has_frames: bool,
 }
 
 /// How the program ends by what is known of the answers.
@@ -168,6 +172,7 @@ fn run<'a, T: Threads + Wait + Clock + Drop + Send + Sync + Copy + 'static>(
         catalog,
         profile,
         keys,
+        has_frames: options.has_frames,
     };
     serve_noting(starting, rt, served, options)
 }

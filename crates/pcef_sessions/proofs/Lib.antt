@@ -2,6 +2,9 @@ pub mod AskedTexts
 pub mod Asks
 pub mod Cutting
 pub mod Fields
+pub mod FrameFronts
+pub mod FrameReads
+pub mod FrameRuns
 pub mod Kept
 pub mod NameTests
 pub mod Saids
@@ -10,3 +13,4 @@ pub mod Servings
 pub mod Spaces
 pub mod Told
 pub mod Unders
+pub mod Wovens
