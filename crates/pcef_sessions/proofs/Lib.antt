@@ -3,10 +3,13 @@ pub mod Asks
 pub mod Cutting
 pub mod Fields
 pub mod FrameFronts
+pub mod FrameLines
+pub mod FrameNames
 pub mod FrameReads
 pub mod FrameRuns
 pub mod Kept
 pub mod NameTests
+pub mod ReadLines
 pub mod Saids
 pub mod Scripts
 pub mod Servings
