@@ -149,6 +149,19 @@ class Frames(ProgramTest):
             self.check(frames.line(b"a", OPEN.encode()) + frames.line(b"a", text[:most]) + frames.flush(b"a"))
         self.check(frames.line(b"a", OPEN.encode()) + frames.take(b"a", PACKET + bytes(65575 - len(PACKET))) + frames.flush(b"a"))
 
+    def test_frames_are_for_one_thread(self):
+        came = self.run_on(PCEF_MANY, ["--frames", "--threads", "2", "profile.toml"])
+        self.assertEqual((came.status, came.wrote), (2, b""))
+        self.assertIn(b"the argument '--frames' cannot be used with '--threads <N>'", came.said)
+
+    def test_totals_count_frames(self):
+        given = frames.line(b"a", OPEN.encode()) + frames.flush(b"a", worker=16) + frames.flush(b"a")
+        self.check(given, "--metrics", "totals")
+        with open(os.path.join(self.room, "totals"), encoding="utf-8") as file:
+            totals = file.read()
+        for row in "pcef_open_sessions 1", "pcef_lines_total 3", 'name="BadWorker"':
+            self.assertIn(row, totals)
+
     def test_every_worker_and_direction(self):
         given = frames.line(b"a", OPEN.encode()) + 3 * frames.line(b"a", ATTACH.encode())
         for worker in range(256):

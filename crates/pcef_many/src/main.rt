@@ -1,6 +1,6 @@
 //! The program `pcef_many`, which answers the lines of many sessions in one process.
 //!
-//! `pcef_many [--threads N] [--frames] [--metrics FILE] [--every SECONDS] PROFILE` reads lines from standard input, each
+//! `pcef_many [--threads N | --frames] [--metrics FILE] [--every SECONDS] PROFILE` reads lines from standard input, each
 //! of which is a session's name, one space, and a line of a script, or one that opens the session, renews it or ends it;
 //! or, with `--frames`, frames that mean such lines. It writes the answers, each behind its name, and keeps totals of them
 //! in a file.

@@ -27,11 +27,12 @@ fn threads_argument<'a>(alloc: Global) -> Arg<'a> {
         .help("How many threads serve the sessions, 1 to 64. A session is one thread's")
 }
 
-fn frames_argument<'a>(alloc: Global) -> Arg<'a> {
+fn frames_argument<'a>(alloc: Global) -> Result<Arg<'a>, AllocError> {
     Arg::new(alloc, "frames")
         .long("frames")
         .action(ArgAction::SetTrue)
-        .help("Reads binary frames, each of which means a line, in the place of lines")
+        .help("Reads binary frames, each of which means a line, in the place of lines, in one thread")
+        .conflicts_with("threads")
 }
 
 fn metrics_argument<'a>(alloc: Global) -> Arg<'a> {
@@ -68,7 +69,7 @@ fn command<'a>(alloc: Global) -> Result<Command<'a>, AllocError> {
             "Answers lines of many sessions, each behind its session's name: opens one by {\"do\":\"open\"}, renews it by {\"do\":\"renew\"} and ends it by {\"do\":\"end\"}",
         )
         .arg(threads_argument(alloc))?
-        .arg(frames_argument(alloc))?
+        .arg(frames_argument(alloc)?)?
         .arg(metrics_argument(alloc))?
         .arg(every_argument(alloc))?
         .arg(profile_argument(alloc))

@@ -26,7 +26,11 @@ use Rattle.pcef_script.specs.ScriptAnswers.{DueWithin, LineDue}
 use Rattle.pcef_script.specs.ScriptLines.{is_blank_line, is_space, is_too_long, line_most, within_limit}
 use Rattle.pcef_script.proofs.LineReads.{text_due}
 use Rattle.pcef_sessions.specs.declared.asking.Asking.TheVariants.{Script}
+use Rattle.pcef_sessions.specs.declared.frame.Frame.{Frame}
+use Rattle.pcef_sessions.specs.declared.frame.Frame.TheVariants as frame
 use Rattle.pcef_sessions.specs.Asked.{asked_at, asked_of, asked_read, asked_within, if_utf8}
+use Rattle.pcef_sessions.specs.private.FrameLines.{IsRight, line_of}
+use Rattle.pcef_sessions.specs.private.Steps.{IsReadOf}
 
 -- ---- UTF-8
 abbrev is_low : ℕ → Bool
@@ -103,10 +107,10 @@ and_false : (x : Bool) → (x && false) ≡ false
 and_false true = refl
 and_false false = refl
 
-pub take_filled : (worker : ℕ) (dir : Dir) (packet : List ℕ) → is_blank_line (take_text worker dir packet) ≡ false
+take_filled : (worker : ℕ) (dir : Dir) (packet : List ℕ) → is_blank_line (take_text worker dir packet) ≡ false
 take_filled worker dir packet = and_false (not (is_too_long (take_text worker dir packet)))
 
-pub flush_filled : (worker : ℕ) → is_blank_line (step_text (codes "flush") worker) ≡ false
+flush_filled : (worker : ℕ) → is_blank_line (step_text (codes "flush") worker) ≡ false
 flush_filled worker = and_false (not (is_too_long (step_text (codes "flush") worker)))
 
 asked_by : (line : List ℕ) (d : Data) → is_too_long line ≡ false → is_utf8 line ≡ true → read line ≡ Some d → asked_of line ≡ asked_at d
@@ -120,12 +124,12 @@ flush_asks : (worker : ℕ) → asked_at (object (members_of None (Some (string 
 unfolding asked_at
 flush_asks worker = refl
 
-pub take_script : (worker : ℕ) (dir : Dir) (packet : List ℕ) → worker ≤ 15 → length packet ≤ 65575 → IsBytes packet → asked_of (take_text worker dir (encode_lower packet)) ≡ Script
+take_script : (worker : ℕ) (dir : Dir) (packet : List ℕ) → worker ≤ 15 → length packet ≤ 65575 → IsBytes packet → asked_of (take_text worker dir (encode_lower packet)) ≡ Script
 take_script worker dir packet le few bytes =
     let line = take_text worker dir (encode_lower packet) in
     asked_by line _ (take_short worker dir packet le few) (is_utf8-from_IsUtf8 line (take_utf8 worker dir packet le bytes)) (take_read worker dir packet le bytes) ∙ take_asks (dir_text dir) (encode_lower packet) worker
 
-pub flush_script : (worker : ℕ) → worker ≤ 15 → asked_of (step_text (codes "flush") worker) ≡ Script
+flush_script : (worker : ℕ) → worker ≤ 15 → asked_of (step_text (codes "flush") worker) ≡ Script
 flush_script worker le =
     let line = step_text (codes "flush") worker in
     asked_by line _ (flush_short worker le) (is_utf8-from_IsUtf8 line (flush_utf8 worker le)) (flush_read worker le) ∙ flush_asks worker
@@ -134,9 +138,23 @@ flush_script worker le =
 due_by : (line : List ℕ) (due : Result Line LineFault) → is_too_long line ≡ false → IsUtf8 line → LineOf line due → LineDue line due
 due_by line due fits utf8 read = rw fits (text_due line due utf8 read)
 
-pub take_due : (worker : ℕ) (dir : Dir) (packet : List ℕ) (due : Result Line LineFault) → worker ≤ 15 → length packet ≤ 65575 → IsBytes packet → LineOf (take_text worker dir (encode_lower packet)) due
+take_due : (worker : ℕ) (dir : Dir) (packet : List ℕ) (due : Result Line LineFault) → worker ≤ 15 → length packet ≤ 65575 → IsBytes packet → LineOf (take_text worker dir (encode_lower packet)) due
     → LineDue (take_text worker dir (encode_lower packet)) due
 take_due worker dir packet due le few bytes read = due_by (take_text worker dir (encode_lower packet)) due (take_short worker dir packet le few) (take_utf8 worker dir packet le bytes) read
 
-pub flush_due : (worker : ℕ) (due : Result Line LineFault) → worker ≤ 15 → LineOf (step_text (codes "flush") worker) due → LineDue (step_text (codes "flush") worker) due
+flush_due : (worker : ℕ) (due : Result Line LineFault) → worker ≤ 15 → LineOf (step_text (codes "flush") worker) due → LineDue (step_text (codes "flush") worker) due
 flush_due worker due le read = due_by (step_text (codes "flush") worker) due (flush_short worker le) (flush_utf8 worker le) read
+
+-- ---- a frame that was read
+pub take_is_read : (worker : ℕ) (dir : Dir) (packet : List ℕ) (due : Result Line LineFault) → worker ≤ 15 → length packet ≤ 65575 → IsBytes packet → LineOf (take_text worker dir (encode_lower packet)) due
+    → IsReadOf (take_text worker dir (encode_lower packet)) due
+take_is_read worker dir packet due le few bytes read =
+    (take_due worker dir packet due le few bytes read, take_script worker dir packet le few bytes, take_filled worker dir (encode_lower packet))
+
+pub flush_is_read : (worker : ℕ) (due : Result Line LineFault) → worker ≤ 15 → LineOf (step_text (codes "flush") worker) due → IsReadOf (step_text (codes "flush") worker) due
+flush_is_read worker due le read = (flush_due worker due le read, flush_script worker le, flush_filled worker)
+
+pub right_filled : (f : Frame) → IsRight f → is_blank_line (line_of f) ≡ false
+right_filled (frame.Line octets) h = h
+right_filled (frame.Take worker dir packet) h = take_filled worker dir (encode_lower packet.now)
+right_filled (frame.Flush worker) h = flush_filled worker

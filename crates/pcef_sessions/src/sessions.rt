@@ -1,7 +1,9 @@
 //! The sessions that are open, by their names.
 
-ghost use Rattle.std.specs.Prelude.{◌≡◌, ◌≢◌, ℕ, List, IfErr, IfOk, None, OnErr, OnOk, Some, false};
+ghost use Rattle.std.specs.Prelude.{◌≡◌, ◌≢◌, ◌≤◌, ℕ, List, codes, length, IfErr, IfOk, None, OnErr, OnOk, Some, false};
 ghost use Rattle.std.specs.Arc.{arc_value};
+ghost use Rattle.hex.specs.Hex.{encode_lower};
+ghost use Rattle.pcef_line.specs.Canonical.{step_text, take_text};
 ghost use Rattle.pcef_model.specs.ProfileModel.{setting_of};
 ghost use Rattle.pcef_script.specs.Running.{OpenFails};
 ghost use Rattle.pcef_script.specs.ScriptLines.{is_blank_line};
@@ -27,7 +29,7 @@ use pcef_catalog::Offers;
 use pcef_index::IndexShelf;
 use pcef_line::{Line, LineFault, LineReader, flush_line, take_line};
 use pcef_model::{OpenFault, Profile};
-use pcef_packet::Addr;
+use pcef_packet::{Addr, Dir};
 use pcef_script::{LineAnswer, ScriptFault};
 use pcef_world::WorldState;
 use std::alloc::{AllocError, Global};
@@ -359,11 +361,42 @@ impl Sessions {
         }
     }
 
+    /// The answer to a packet for a worker, as to its line.
+    fn answer_take(
+        &mut self,
+        name: &SessionName,
+        worker: u8,
+        dir: Dir,
+        packet: &[u8],
+    ) -> Result<LineAnswer, AllocError>
+        requires worker { worker ≤ 15 }
+        requires packet { length packet.now ≤ 65575 }
+        ensures answer { IfOk result (λ a. AnswersIn self.old name.now
+            (take_text worker dir (encode_lower packet.now)) a self.new) }
+        ensures lacks { OnErr result (LacksIn self.old name.now
+            (take_text worker dir (encode_lower packet.now)) self.new) }
+        ensures fixed { fixed self.new ≡ fixed self.old }
+    {
+        self.answer_read(name, take_line(worker, dir, packet))
+    }
+
+    /// The answer to a flush of a worker, as to its line.
+    fn answer_flush(&mut self, name: &SessionName, worker: u8) -> Result<LineAnswer, AllocError>
+        requires { worker ≤ 15 }
+        ensures answer { IfOk result (λ a. AnswersIn self.old name.now
+            (step_text (codes "flush") worker) a self.new) }
+        ensures lacks { OnErr result (LacksIn self.old name.now
+            (step_text (codes "flush") worker) self.new) }
+        ensures fixed { fixed self.new ≡ fixed self.old }
+    {
+        self.answer_read(name, Ok(flush_line(worker)))
+    }
+
     /// The answer to what a frame says to a session.
     fn answer_said(&mut self, name: &SessionName, said: Frame<'_>) -> Result<LineAnswer, AllocError>
         requires right { IsRight said }
-        ensures answer { IfOk result (λ a. AnswersIn self.old name.now (line_of said) a self.new) }
-        ensures lacks { OnErr result (LacksIn self.old name.now (line_of said) self.new) }
+        ensures answer { IfOk result (λ a. AnswersIn self.old name.now (line_of said.entry) a self.new) }
+        ensures lacks { OnErr result (LacksIn self.old name.now (line_of said.entry) self.new) }
         ensures fixed { fixed self.new ≡ fixed self.old }
     {
         match said {
@@ -372,8 +405,8 @@ impl Sessions {
                 worker,
                 dir,
                 packet,
-            } => self.answer_read(name, take_line(worker, dir, packet)),
-            Frame::Flush { worker } => self.answer_read(name, Ok(flush_line(worker))),
+            } => self.answer_take(name, worker, dir, packet),
+            Frame::Flush { worker } => self.answer_flush(name, worker),
         }
     }
 
