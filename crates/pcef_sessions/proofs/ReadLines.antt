@@ -24,8 +24,8 @@ none_read p (Some s) after line read a none is text right = absurd none
 
 pub read_lacks : (p : Setting) (there after : Option Session) (line : List ℕ) (read : Result Line LineFault) → RunReadLacks there read after → IsReadOf line read → LacksUnder p there line after
 read_lacks p None after line read lacks is = absurd lacks
-read_lacks p (Some s) after line read (standing, (inl same, there)) is = inl (there ∙ ap (λ (t : Standing). Some (record s { standing = t })) same)
-read_lacks p (Some s) after line read (standing, (inr done, there)) is =
+read_lacks p (Some s) after line read (standing, inl same, there) is = inl (there ∙ ap (λ (t : Standing). Some (record s { standing = t })) same)
+read_lacks p (Some s) after line read (standing, inr done, there) is =
     inr (record {
       text = done.text;
       at_fault = done.at_fault;

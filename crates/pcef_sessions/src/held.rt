@@ -103,8 +103,9 @@ impl Held {
         ensures setting { self.new.session.setting ≡ self.old.session.setting }
         ensures forgotten { self.new.forgotten ≡ report_count self.old.session.standing.journal }
     {
-        self.world.forget();
-        answer_read(alloc, &*self.catalog, &mut self.world, read)
+        let world = &mut self.world;
+        world.forget();
+        answer_read(alloc, &*self.catalog, world, read)
     }
 
     /// Renews the session, and answers. The reports of the lines before it were written, and are forgotten.

@@ -428,10 +428,8 @@ impl Sessions {
         match read_frame(frame) {
             Ok((name, said)) => {
                 let answer = self.answer_said(&name, said)?;
-                Ok(NamedAnswer {
-                    name: Some(name),
-                    answer,
-                })
+                let name = Some(name);
+                Ok(NamedAnswer { name, answer })
             }
             Err(fault) => self.malformed(fault),
         }
