@@ -103,9 +103,9 @@ impl Held {
         ensures setting { self.new.session.setting ≡ self.old.session.setting }
         ensures forgotten { self.new.forgotten ≡ report_count self.old.session.standing.journal }
     {
-        let world = &mut self.world;
-        world.forget();
-        answer_read(alloc, &*self.catalog, world, read)
+        let state = &mut self.world;
+        state.forget();
+        answer_read(alloc, &*self.catalog, state, read)
     }
 
     /// Renews the session, and answers. The reports of the lines before it were written, and are forgotten.
