@@ -38,7 +38,7 @@ use Rattle.pcef_line.proofs.ShortAnswers.{flush_is, read_as, refresh_is, take_is
 digit_is_plain : (x : ℕ) → is_hex_digit x ≡ true → (32 ≤ x) × (x ≡ 34 → ⊥) × (x ≡ 92 → ⊥)
 digit_is_plain x h = (grind arith, λ e. cc (sym h ∙ ap is_hex_digit e), λ e. cc (sym h ∙ ap is_hex_digit e))
 
-escape_digits : (s : List ℕ) → AllPass is_hex_digit s → escape s ≡ s
+pub escape_digits : (s : List ℕ) → AllPass is_hex_digit s → escape s ≡ s
 escape_digits [] h = refl
 escape_digits (x ∷ xs) h =
     let p = digit_is_plain x (All-head (λ y. is_hex_digit y ≡ true) x xs h) in
@@ -62,7 +62,7 @@ read_written j numbers shallow =
 
 -- ---- a `take`
 
-abbrev dir_text : Dir → List ℕ
+abbrev pub dir_text : Dir → List ℕ
 dir_text Up = codes "up"
 dir_text Down = codes "down"
 
@@ -83,7 +83,7 @@ members_are : (digits dir packet : List ℕ) (worker : ℕ) → number_of digits
 members_are digits dir packet worker e = rw e refl
 
 -- a text of that spelling is read as that object
-spelled : (worker : ℕ) (dir : Dir) (packet text : List ℕ) → worker ≤ 15 → escape packet ≡ packet → text ≡ take_text worker dir packet
+pub spelled : (worker : ℕ) (dir : Dir) (packet text : List ℕ) → worker ≤ 15 → escape packet ≡ packet → text ≡ take_text worker dir packet
     → read text ≡ Some (object (members_of (Some (string (dir_text dir))) (Some (string (codes "take"))) (Some (string packet)) (Some (number (unsigned worker)))))
 spelled worker dir packet text le plain is =
     let small : worker < 2 ^ 64 = omega (arith, le) in
@@ -107,7 +107,7 @@ take_due worker dir packet text h le is e =
 abbrev step_json : List ℕ → List ℕ → json.Json
 step_json word digits = json.object (json.member (codes "do") (json.string word) (json.member (codes "worker") (json.number digits) json.no_members))
 
-flush_printed : (worker : ℕ) → print (json_tokens (step_json (codes "flush") (decimal worker))) ≡ step_text (codes "flush") worker
+pub flush_printed : (worker : ℕ) → print (json_tokens (step_json (codes "flush") (decimal worker))) ≡ step_text (codes "flush") worker
 unfolding json_on_literals
 flush_printed worker = refl
 
@@ -118,7 +118,7 @@ refresh_printed worker = refl
 step_members : (word digits : List ℕ) (worker : ℕ) → number_of digits ≡ Some (unsigned worker) → of_json (step_json word digits) ≡ Some (object (members_of None (Some (string word)) None (Some (number (unsigned worker)))))
 step_members word digits worker e = rw e refl
 
-step_spelled : (word text : List ℕ) (worker : ℕ) → worker ≤ 15 → print (json_tokens (step_json word (decimal worker))) ≡ text
+pub step_spelled : (word text : List ℕ) (worker : ℕ) → worker ≤ 15 → print (json_tokens (step_json word (decimal worker))) ≡ text
     → read text ≡ Some (object (members_of None (Some (string word)) None (Some (number (unsigned worker)))))
 step_spelled word text worker le is =
     let small : worker < 2 ^ 64 = omega (arith, le) in

@@ -1,3 +1,4 @@
+pub mod BuiltLines
 pub mod Canonical
 pub mod Digits
 pub mod FilterLists

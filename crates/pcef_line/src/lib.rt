@@ -4,9 +4,10 @@
 //! Its contracts say: the line that a text spells, or its first fault.
 //!
 //! In the order of reading: `field`, `laws`, `line`, `fault`, `word`, `known`, `octets`, `values`, `spelling`, `short`,
-//! `worker`, `trigger`, `level`, `rule`, `command`, `reading`.
+//! `worker`, `trigger`, `level`, `rule`, `command`, `reading`, `built`.
 #![tactic(auto)]
 
+mod built;
 mod command;
 mod fault;
 mod field;
@@ -24,6 +25,7 @@ mod values;
 mod word;
 mod worker;
 
+pub use built::{flush_line, take_line};
 pub use fault::LineFault;
 pub use field::Field;
 pub use laws::one_line;

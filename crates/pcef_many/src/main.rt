@@ -1,8 +1,9 @@
 //! The program `pcef_many`, which answers the lines of many sessions in one process.
 //!
-//! `pcef_many [--threads N] [--metrics FILE] [--every SECONDS] PROFILE` reads lines from standard input, each of which
-//! is a session's name, one space, and a line of a script, or one that opens the session, renews it or ends it. It
-//! writes the answers, each behind its name, and keeps totals of them in a file.
+//! `pcef_many [--threads N | --frames] [--metrics FILE] [--every SECONDS] PROFILE` reads lines from standard input, each
+//! of which is a session's name, one space, and a line of a script, or one that opens the session, renews it or ends it;
+//! or, with `--frames`, frames that mean such lines. It writes the answers, each behind its name, and keeps totals of them
+//! in a file.
 #![tactic(auto)]
 
 mod end;
@@ -24,7 +25,7 @@ use pcef_command_line::{gather, refuse, report_no_memory};
 use pcef_explain::read_text;
 use pcef_model::Profile;
 use pcef_profile::{ReadProfileFault, explain, read_profile};
-use serving::{Keys, serve_in, serve_lines};
+use serving::{Keys, serve_here, serve_in};
 use std::io::{self, ErrorKind};
 use std::process::ExitCode;
 use std::rt::Clock;
@@ -58,7 +59,7 @@ fn report_profile_fault<'a>(
     End::Profile
 }
 
-/// Serves lines, in as many threads as there are to be.
+/// Serves lines or frames, in as many threads as there are to be.
 fn serve<'a, T: Threads + Wait + Clock + Drop + Send + Sync + Copy + 'static>(
     starting: T,
     rt: &HostRuntime,
@@ -70,9 +71,12 @@ fn serve<'a, T: Threads + Wait + Clock + Drop + Send + Sync + Copy + 'static>(
         catalog,
         profile,
         keys,
+        has_frames,
     } = served;
     if threads == 1 {
-        serve_lines(starting, rt, catalog, profile, keys.names, notes)
+        serve_here(
+            starting, rt, catalog, profile, keys.names, has_frames, notes,
+        )
     } else {
         serve_in(starting, rt, threads, &profile, keys, notes)
     }
@@ -84,6 +88,7 @@ struct Served {
     catalog: ShapedCatalog,
     profile: Profile,
     keys: Keys,
+    has_frames: bool,
 }
 
 /// How the program ends by what is known of the answers.
@@ -168,6 +173,7 @@ fn run<'a, T: Threads + Wait + Clock + Drop + Send + Sync + Copy + 'static>(
         catalog,
         profile,
         keys,
+        has_frames: options.has_frames,
     };
     serve_noting(starting, rt, served, options)
 }

@@ -9,6 +9,8 @@ use std::alloc::{AllocError, Global};
 pub(crate) struct Options<'a> {
     /// How many threads serve the sessions: 1 to 64.
     pub threads: u8,
+    /// Whether frames are read, in the place of lines.
+    pub has_frames: bool,
     /// Where totals are kept, if they are.
     pub metrics: Option<Keeping<'a>>,
     /// The path of the profile.
@@ -23,6 +25,14 @@ fn threads_argument<'a>(alloc: Global) -> Arg<'a> {
         .value_parser(value_parser!(u8).range(1..=64))
         .default_value("1")
         .help("How many threads serve the sessions, 1 to 64. A session is one thread's")
+}
+
+fn frames_argument<'a>(alloc: Global) -> Result<Arg<'a>, AllocError> {
+    Arg::new(alloc, "frames")
+        .long("frames")
+        .action(ArgAction::SetTrue)
+        .help("Reads binary frames, each of which means a line, in the place of lines, in one thread")
+        .conflicts_with("threads")
 }
 
 fn metrics_argument<'a>(alloc: Global) -> Arg<'a> {
@@ -59,6 +69,7 @@ fn command<'a>(alloc: Global) -> Result<Command<'a>, AllocError> {
             "Answers lines of many sessions, each behind its session's name: opens one by {\"do\":\"open\"}, renews it by {\"do\":\"renew\"} and ends it by {\"do\":\"end\"}",
         )
         .arg(threads_argument(alloc))?
+        .arg(frames_argument(alloc)?)?
         .arg(metrics_argument(alloc))?
         .arg(every_argument(alloc))?
         .arg(profile_argument(alloc))
@@ -69,6 +80,7 @@ fn options_of<'a>(matches: &ArgMatches<'a>) -> Option<Options<'a>> {
     let seconds = matches.get_one::<u64>("every")?;
     Some(Options {
         threads: matches.get_one::<u8>("threads")?,
+        has_frames: matches.get_flag("frames"),
         metrics: matches
             .get_str("metrics")
             .map(|file| Keeping { file, seconds }),

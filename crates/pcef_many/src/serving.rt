@@ -7,7 +7,7 @@ use pcef_built_in::ShapedCatalog;
 use pcef_model::Profile;
 use pcef_output::Fused;
 use pcef_script::ScriptFault;
-use pcef_sessions::serve;
+use pcef_sessions::{serve, serve_frames};
 use pcef_shards::{Ended, Outlet, Ran, serve_in_threads};
 use std::hash::RandomState;
 use std::io::{self, BufWriter, Write};
@@ -49,13 +49,14 @@ fn end_whole<'a>(is_any_at_fault: bool) -> End<'a> {
     }
 }
 
-/// Serves lines in the calling thread.
-pub(crate) fn serve_lines<'a, T: Wait + Drop>(
+/// Serves lines, or frames, in the calling thread.
+pub(crate) fn serve_here<'a, T: Wait + Drop>(
     waiting: T,
     rt: &HostRuntime,
     catalog: ShapedCatalog,
     profile: Profile,
     keys: RandomState,
+    has_frames: bool,
     notes: Arc<Mutex<Notes>>,
 ) -> End<'a> {
     let alloc = rt.alloc();
@@ -65,7 +66,12 @@ pub(crate) fn serve_lines<'a, T: Wait + Drop>(
         Ok(writer) => writer,
         Err(_) => return End::NoMemory,
     };
-    let end = match serve(alloc, &mut reader, &mut writer, profile, catalog, keys) {
+    let served = if has_frames {
+        serve_frames(alloc, &mut reader, &mut writer, profile, catalog, keys)
+    } else {
+        serve(alloc, &mut reader, &mut writer, profile, catalog, keys)
+    };
+    let end = match served {
         Ok(is_any_at_fault) => end_whole(is_any_at_fault),
         Err(ScriptFault::Write) => return End::Write,
         Err(fault) => end_of(fault),

@@ -1,6 +1,6 @@
 -- What is due to a line, by whether it is UTF-8, and the answer to what is due.
 use Rattle.std.proofs.Common.{◌≡◌, ◌∙◌, ap, ℕ, Bool, true, false, List, inl, inr, refl}
-use Rattle.std.proofs.lemmas.Result.{IfOk-weaker, on_err_weaker}
+use Rattle.std.proofs.lemmas.Result.{IfOk-weaker}
 use Rattle.std.specs.Prelude.{◌≢◌, Some, String, Result, Ok, Err, IfOk, OnErr, string_bytes}
 use Rattle.std.specs.declared.alloc.Global.{Global}
 use Rattle.std.specs.declared.alloc.AllocError.{AllocError}
@@ -46,6 +46,12 @@ pub line_answered : (r : Result LineAnswer AllocError) (p : Setting) (s t : Stan
     → IfOk r (λ a. DoesLine p s line (string_bytes a.text) t) → IfOk r (λ a. a.is_fault ≡ false) → IfOk r (λ a. AnswersDue (LineOf text) p s (string_bytes a.text) a.is_fault t)
 line_answered (Ok a) p s t text line read steps counts = (read.0, read.1, rw read.2 (steps, counts))
 line_answered (Err e) p s t text line read steps counts = tt
+
+-- what a line asks for is done
+pub line_done : (r : Result LineAnswer AllocError) (p : Setting) (s t : Standing) (line : Line)
+    → IfOk r (λ a. DoesLine p s line (string_bytes a.text) t) → IfOk r (λ a. a.is_fault ≡ false) → IfOk r (λ a. AnswersAs p s (Ok line) (string_bytes a.text) a.is_fault t)
+line_done (Ok a) p s t line steps counts = (steps, counts)
+line_done (Err e) p s t line steps counts = tt
 
 -- a reader's fault that isn't out of memory is the line's first fault
 pub fault_read : (r : Result LineAnswer AllocError) (p : Setting) (s : Standing) (text : List ℕ) (fault : LineFault) → (due : Result Line LineFault) × LineOf text due × Gives (λ l. l) (Err fault) due

@@ -39,6 +39,15 @@ abbrev pub LacksBy : (Result Line LineFault → Type 0) → World → World → 
 LacksBy Due before after =
     IsDoneOrNot (AnswersDue Due before.session.setting (standing_of before)) (standing_of before) (standing_of after)
 
+-- the answer to a line of which this was read, and the world after it
+abbrev pub AnswersRead : Result Line LineFault → World → LineAnswer → World → Type 0
+AnswersRead read before a after =
+    AnswersAs before.session.setting (standing_of before) read (string_bytes a.text) a.is_fault (standing_of after)
+
+abbrev pub ReadLacks : Result Line LineFault → World → World → Type 0
+ReadLacks read before after =
+    IsDoneOrNot (AnswersAs before.session.setting (standing_of before) read) (standing_of before) (standing_of after)
+
 -- a fault has the same answer in every world
 abbrev pub AnswersFault : LineFault → Result LineAnswer AllocError → Type 0
 AnswersFault fault result =

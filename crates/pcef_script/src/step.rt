@@ -5,7 +5,7 @@ ghost use Rattle.pcef_line.specs.LineOf.{LineOf};
 ghost use Rattle.pcef_model.specs.Journals.{report_count};
 ghost use Rattle.pcef_line.specs.declared.fault.LineFault.TheVariants.{LineTooLong};
 ghost use Rattle.pcef_line.specs.declared.line.Line.TheVariants.{Show};
-ghost use Rattle.pcef_script.specs.LineAnswers.{AnswersBy, AnswersFault, AnswersReadFault, DoesWorldLine, AnswersStep, LacksBy, LineLacks, StepLacks};
+ghost use Rattle.pcef_script.specs.LineAnswers.{AnswersBy, AnswersFault, AnswersRead, AnswersReadFault, DoesWorldLine, AnswersStep, LacksBy, LineLacks, ReadLacks, StepLacks};
 ghost use Rattle.pcef_script.specs.ScriptAnswers.{DueWithin};
 
 use pcef_answer::{fault_text, show_answer, step_answer};
@@ -104,6 +104,28 @@ fn read_fault(alloc: Global, at_fault: LineFault) -> Result<LineAnswer, AllocErr
     match at_fault {
         LineFault::NoMemory => Err(AllocError),
         _ => fault(alloc, at_fault),
+    }
+}
+
+/// Does what a line that was read asks for, or answers with its fault, as a script does. A line at fault changes nothing.
+/// Takes memory for the answer and for what the session keeps. When out of memory, the session and its workers are as
+/// before the line, or as after it.
+pub fn answer_read<C: Detects>(
+    alloc: Global,
+    catalog: &C,
+    world: &mut WorldState,
+    read: Result<Line, LineFault>,
+) -> Result<LineAnswer, AllocError>
+    requires offered { C.offers catalog.now ≡ world.old.session.setting.catalog }
+    requires kept { world.old.session.forgotten ≤ report_count world.old.session.journal }
+    ensures answer { IfOk result (λ a. AnswersRead read world.old a world.new) }
+    ensures lacks { OnErr result (ReadLacks read world.old world.new) }
+    ensures setting { world.new.session.setting ≡ world.old.session.setting }
+    ensures forgotten { world.new.session.forgotten ≡ world.old.session.forgotten }
+{
+    match read {
+        Ok(asked) => do_step(alloc, catalog, world, asked),
+        Err(at_fault) => read_fault(alloc, at_fault),
     }
 }
 

@@ -1,6 +1,10 @@
 pub mod Addressed
 pub mod Asked
 pub mod Between
+pub mod FrameSayings
+pub mod Framed
+pub mod Frames
+pub mod FramesServed
 pub mod Sayings
 pub mod Served
 pub mod Standing

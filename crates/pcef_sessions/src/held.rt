@@ -4,17 +4,17 @@ ghost use Rattle.std.specs.Prelude.{◌≡◌, ◌⊎◌, IfOk, OnErr, OnOk, fal
 ghost use Rattle.std.specs.Arc.{arc_value};
 ghost use Rattle.pcef_model.specs.Journals.{report_count};
 ghost use Rattle.pcef_renewal_lines.specs.Lines.{AnswersLines};
-ghost use Rattle.pcef_script.specs.ScriptAnswers.{AnswersLine, LacksForLine};
+ghost use Rattle.pcef_script.specs.ScriptAnswers.{AnswersAs, AnswersLine, IsDoneOrNot, LacksForLine};
 ghost use Rattle.pcef_script.specs.ScriptLines.{is_blank_line};
 ghost use Rattle.pcef_sessions.specs.Under.{renewal_text, renewed};
 ghost use Rattle.pcef_world.specs.Steps.{standing_of};
 
 use pcef_built_in::ShapedCatalog;
 use pcef_index::IndexShelf;
-use pcef_line::LineReader;
+use pcef_line::{Line, LineFault, LineReader};
 use pcef_renewal_answer::answer_renew;
 use pcef_renewal_lines::answer_lines;
-use pcef_script::{LineAnswer, answer_alone};
+use pcef_script::{LineAnswer, answer_alone, answer_read};
 use pcef_world::WorldState;
 use std::alloc::{AllocError, Global};
 use std::marker::Model;
@@ -85,6 +85,27 @@ impl Held {
             Some(answer) => Ok(answer),
             None => unreachable!(),
         }
+    }
+
+    /// Does what a line asks for of which this was read, and answers as the script does. The reports of the lines before
+    /// it were written, and are forgotten.
+    pub(crate) fn answer_read(
+        &mut self,
+        alloc: Global,
+        read: Result<Line, LineFault>,
+    ) -> Result<LineAnswer, AllocError>
+        ensures answer { IfOk result (λ a.
+            AnswersAs self.old.session.setting self.old.session.standing read
+            (string_bytes a.text) a.is_fault self.new.session.standing) }
+        ensures lacks { OnErr result (IsDoneOrNot
+            (AnswersAs self.old.session.setting self.old.session.standing read)
+            self.old.session.standing self.new.session.standing) }
+        ensures setting { self.new.session.setting ≡ self.old.session.setting }
+        ensures forgotten { self.new.forgotten ≡ report_count self.old.session.standing.journal }
+    {
+        let state = &mut self.world;
+        state.forget();
+        answer_read(alloc, &*self.catalog, state, read)
     }
 
     /// Renews the session, and answers. The reports of the lines before it were written, and are forgotten.

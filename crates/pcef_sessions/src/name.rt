@@ -20,7 +20,7 @@ pub type SessionName = Name<OfSession>;
 pub(crate) const NO_NAME: &str = "-";
 
 /// The session's name that octets are.
-fn name_of(octets: &[u8]) -> Option<SessionName>
+pub(crate) fn name_of(octets: &[u8]) -> Option<SessionName>
     ensures { result ≡ (if is_session_name octets.now then Some octets.now else None) }
 {
     if octets == NO_NAME.as_bytes() {

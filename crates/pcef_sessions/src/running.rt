@@ -49,7 +49,8 @@ fn write_name<W: Write>(writer: &mut W, name: &Option<SessionName>) -> Result<()
     put_all(writer, b" ")
 }
 
-fn write_named<W: Write>(writer: &mut W, named: &NamedAnswer) -> Result<(), ScriptFault>
+/// Writes an answer behind its name, and a line feed.
+pub(crate) fn write_named<W: Write>(writer: &mut W, named: &NamedAnswer) -> Result<(), ScriptFault>
     ensures all { OnOk result (Appends (W.contents writer.old) (W.contents writer.new)
         (said_bytes (said_of named.now))) }
     ensures front { IfErr result (WritesFront (W.contents writer.old) (W.contents writer.new)
@@ -73,7 +74,7 @@ fn keep(line: &mut Vec<u8>, bytes: &[u8]) -> Result<(), ScriptFault>
 }
 
 /// Whether one of two holds.
-fn either(one: bool, other: bool) -> bool
+pub(crate) fn either(one: bool, other: bool) -> bool
     ensures { result ≡ (one || other) }
 {
     one || other
@@ -137,7 +138,7 @@ fn take_block<W: Write>(
 }
 
 /// Whether a line ends in some octets.
-fn has_feed(bytes: &[u8]) -> bool
+pub(crate) fn has_feed(bytes: &[u8]) -> bool
     ensures { result ≡ has_feed bytes.now }
 {
     memchr(b'\n', bytes).is_some()

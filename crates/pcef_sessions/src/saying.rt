@@ -1,9 +1,12 @@
 //! Answers to lines.
 
 ghost use Rattle.std.specs.Prelude.{◌≡◌, IfOk, true, string_bytes};
+ghost use Rattle.pcef_sessions.specs.FrameSayings.{malformed};
+ghost use Rattle.pcef_sessions.specs.Sayings.{said_of};
 ghost use Rattle.pcef_sessions.specs.Under.{asking_fault_text};
 
 use crate::asking::AskingFault;
+use crate::frame_fault::FrameFault;
 use crate::name::SessionName;
 use pcef_answer::fault_text;
 use pcef_line::LineFault;
@@ -52,5 +55,15 @@ pub(crate) fn says_fault(alloc: Global, fault: AskingFault) -> Result<LineAnswer
     Ok(LineAnswer {
         text: text_of(alloc, fault)?,
         is_fault: true,
+    })
+}
+
+/// The answer to a malformed frame.
+pub(crate) fn says_malformed(alloc: Global, fault: FrameFault) -> Result<NamedAnswer, AllocError>
+    ensures { IfOk result (λ t. said_of t ≡ malformed fault) }
+{
+    Ok(NamedAnswer {
+        name: None,
+        answer: says(alloc, fault.text(), true)?,
     })
 }

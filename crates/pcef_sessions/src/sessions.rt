@@ -1,29 +1,35 @@
 //! The sessions that are open, by their names.
 
-ghost use Rattle.std.specs.Prelude.{◌≡◌, ◌≢◌, ℕ, List, IfErr, IfOk, None, OnErr, OnOk, Some, false};
+ghost use Rattle.std.specs.Prelude.{◌≡◌, ◌≢◌, ◌≤◌, ℕ, List, codes, length, IfErr, IfOk, None, OnErr, OnOk, Some, false};
 ghost use Rattle.std.specs.Arc.{arc_value};
+ghost use Rattle.hex.specs.Hex.{encode_lower};
+ghost use Rattle.pcef_line.specs.Canonical.{step_text, take_text};
 ghost use Rattle.pcef_model.specs.ProfileModel.{setting_of};
 ghost use Rattle.pcef_script.specs.Running.{OpenFails};
 ghost use Rattle.pcef_script.specs.ScriptLines.{is_blank_line};
 ghost use Rattle.pcef_script.specs.Scripts.{Opened};
 ghost use Rattle.pcef_world.specs.Worlds.{IsOpenedWorld};
 ghost use Rattle.pcef_sessions.specs.Asked.{asked_of};
-ghost use Rattle.pcef_sessions.specs.Sayings.{AnswersNamedLine, LacksForNamedLine};
+ghost use Rattle.pcef_sessions.specs.FrameSayings.{AnswersFrame, LacksForFrame, malformed};
+ghost use Rattle.pcef_sessions.specs.Sayings.{AnswersNamedLine, LacksForNamedLine, said_of};
 ghost use Rattle.pcef_sessions.specs.declared.asking.Asking.TheVariants as asking;
 ghost use Rattle.pcef_sessions.specs.Standing.{Becomes, fixed, held};
 ghost use Rattle.pcef_sessions.specs.Under.{opened, with_address};
-ghost use Rattle.pcef_sessions.specs.private.Steps.{AllStay, AnswersIn, Asks, AsksInstead, AsksOf, LacksAsked, LacksIn, OthersStay, RunLacks, Runs};
+ghost use Rattle.pcef_sessions.specs.private.FrameLines.{IsRight, line_of};
+ghost use Rattle.pcef_sessions.specs.private.Steps.{AllStay, AnswersIn, AnswersRead, Asks, AsksInstead, AsksOf, LacksAsked, LacksIn, LacksRead, OthersStay, RunLacks, RunReadLacks, Runs, RunsRead};
 
 use crate::asking::{Asking, asked_of};
+use crate::frame::{Frame, read_frame};
+use crate::frame_fault::FrameFault;
 use crate::held::Held;
 use crate::name::{SessionName, split_name};
-use crate::saying::{NamedAnswer, says, says_fault};
+use crate::saying::{NamedAnswer, says, says_fault, says_malformed};
 use pcef_built_in::ShapedCatalog;
 use pcef_catalog::Offers;
 use pcef_index::IndexShelf;
-use pcef_line::LineReader;
+use pcef_line::{Line, LineFault, LineReader, flush_line, take_line};
 use pcef_model::{OpenFault, Profile};
-use pcef_packet::Addr;
+use pcef_packet::{Addr, Dir};
 use pcef_script::{LineAnswer, ScriptFault};
 use pcef_world::WorldState;
 use std::alloc::{AllocError, Global};
@@ -317,6 +323,115 @@ impl Sessions {
                     answer,
                 })
             }
+        }
+    }
+    /// The answer of a script to a line of which this was read, if there is a session. It changes no rules.
+    fn run_read(
+        &mut self,
+        name: &SessionName,
+        read: Result<Line, LineFault>,
+    ) -> Result<Option<LineAnswer>, AllocError>
+        ensures there { IfOk result (λ a. RunsRead (held self.old name.now) read a (held self.new name.now)) }
+        ensures lacks { OnErr result (RunReadLacks (held self.old name.now) read (held self.new name.now)) }
+        ensures others { OthersStay self.old name.now self.new }
+        ensures fixed { fixed self.new ≡ fixed self.old }
+    {
+        match self.table.get_mut(name) {
+            None => Ok(None),
+            Some(held) => {
+                let answer = held.answer_read(self.alloc, read)?;
+                Ok(Some(answer))
+            }
+        }
+    }
+
+    /// The answer to a line for a name of which this was read, and which asks nothing of the sessions.
+    fn answer_read(
+        &mut self,
+        name: &SessionName,
+        read: Result<Line, LineFault>,
+    ) -> Result<LineAnswer, AllocError>
+        ensures answer { IfOk result (λ a. AnswersRead self.old name.now read a self.new) }
+        ensures lacks { OnErr result (LacksRead self.old name.now read self.new) }
+        ensures fixed { fixed self.new ≡ fixed self.old }
+    {
+        match self.run_read(name, read)? {
+            None => says(self.alloc, "{\"name\":\"NoSession\",\"refused\":0}", false),
+            Some(answer) => Ok(answer),
+        }
+    }
+
+    /// The answer to a packet for a worker, as to its line.
+    fn answer_take(
+        &mut self,
+        name: &SessionName,
+        worker: u8,
+        dir: Dir,
+        packet: &[u8],
+    ) -> Result<LineAnswer, AllocError>
+        requires worker { worker ≤ 15 }
+        requires packet { length packet.now ≤ 65575 }
+        ensures answer { IfOk result (λ a. AnswersIn self.old name.now
+            (take_text worker dir (encode_lower packet.now)) a self.new) }
+        ensures lacks { OnErr result (LacksIn self.old name.now
+            (take_text worker dir (encode_lower packet.now)) self.new) }
+        ensures fixed { fixed self.new ≡ fixed self.old }
+    {
+        self.answer_read(name, take_line(worker, dir, packet))
+    }
+
+    /// The answer to a flush of a worker, as to its line.
+    fn answer_flush(&mut self, name: &SessionName, worker: u8) -> Result<LineAnswer, AllocError>
+        requires { worker ≤ 15 }
+        ensures answer { IfOk result (λ a. AnswersIn self.old name.now
+            (step_text (codes "flush") worker) a self.new) }
+        ensures lacks { OnErr result (LacksIn self.old name.now
+            (step_text (codes "flush") worker) self.new) }
+        ensures fixed { fixed self.new ≡ fixed self.old }
+    {
+        self.answer_read(name, Ok(flush_line(worker)))
+    }
+
+    /// The answer to what a frame says to a session.
+    fn answer_said(&mut self, name: &SessionName, said: Frame<'_>) -> Result<LineAnswer, AllocError>
+        requires right { IsRight said }
+        ensures answer { IfOk result (λ a. AnswersIn self.old name.now (line_of said.entry) a self.new) }
+        ensures lacks { OnErr result (LacksIn self.old name.now (line_of said.entry) self.new) }
+        ensures fixed { fixed self.new ≡ fixed self.old }
+    {
+        match said {
+            Frame::Line(line) => self.answer_to(name, line),
+            Frame::Take {
+                worker,
+                dir,
+                packet,
+            } => self.answer_take(name, worker, dir, packet),
+            Frame::Flush { worker } => self.answer_flush(name, worker),
+        }
+    }
+
+    /// The answer to a malformed frame.
+    pub(crate) fn malformed(&self, fault: FrameFault) -> Result<NamedAnswer, AllocError>
+        ensures { IfOk result (λ t. said_of t ≡ malformed fault) }
+    {
+        says_malformed(self.alloc, fault)
+    }
+
+    /// Does what the line asks for that a frame means, and answers as [`Sessions::answer`] does to it. A malformed frame
+    /// is answered with its fault, and nothing is done for it. The frame comes without its length. Takes memory as
+    /// `answer` does, but for the line; when out of memory, all is as where `answer` is.
+    pub fn answer_frame(&mut self, frame: &[u8]) -> Result<NamedAnswer, AllocError>
+        ensures answer { IfOk result (λ t. AnswersFrame self.old frame.now t self.new) }
+        ensures lacks { OnErr result (LacksForFrame self.old frame.now self.new) }
+        ensures fixed { fixed self.new ≡ fixed self.old }
+    {
+        match read_frame(frame) {
+            Ok((name, said)) => {
+                let answer = self.answer_said(&name, said)?;
+                let name = Some(name);
+                Ok(NamedAnswer { name, answer })
+            }
+            Err(fault) => self.malformed(fault),
         }
     }
 }

@@ -1,9 +1,12 @@
 -- The steps to an answer.
-use Rattle.std.specs.Prelude.{ℕ, ◌≡◌, ◌≢◌, ◌⊎◌, List, true, false, Option, Some, None, string_bytes}
+use Rattle.std.specs.Prelude.{ℕ, ◌≡◌, ◌≢◌, ◌⊎◌, List, true, false, Option, Some, None, Result, string_bytes}
 use Rattle.pcef_model.specs.Setting.{Setting}
 use Rattle.pcef_world.specs.Steps.{Standing}
 use Rattle.pcef_script.specs.declared.step.LineAnswer.{LineAnswer}
-use Rattle.pcef_script.specs.ScriptAnswers.{AnswersLine, LacksForLine}
+use Rattle.pcef_line.specs.declared.line.Line.{Line}
+use Rattle.pcef_line.specs.declared.fault.LineFault.{LineFault}
+use Rattle.pcef_script.specs.ScriptAnswers.{AnswersAs, AnswersLine, IsDoneOrNot, LacksForLine, LineDue}
+use Rattle.pcef_script.specs.ScriptLines.{is_blank_line}
 use Rattle.pcef_sessions.specs.declared.asking.Asking.{Asking}
 use Rattle.pcef_sessions.specs.declared.asking.Asking.TheVariants as asking
 use Rattle.pcef_sessions.specs.declared.sessions.Sessions.{Sessions}
@@ -33,6 +36,25 @@ abbrev pub RunLacks : Option Session → List ℕ → Option Session → Type 0
 RunLacks None line after = ⊥
 RunLacks (Some s) line after =
     (standing : Standing) × LacksForLine s.setting s.standing line standing × (after ≡ Some (record s { standing = standing }))
+
+-- a session that is there answers a line of which this was read
+abbrev pub RunsRead : Option Session → Result Line LineFault → Option LineAnswer → Option Session → Type 0
+RunsRead None read None after = after ≡ None
+RunsRead None read (Some a) after = ⊥
+RunsRead (Some s) read None after = ⊥
+RunsRead (Some s) read (Some a) after =
+    (standing : Standing) × AnswersAs s.setting s.standing read (string_bytes a.text) a.is_fault standing
+    × (after ≡ Some (record s { standing = standing }))
+
+abbrev pub RunReadLacks : Option Session → Result Line LineFault → Option Session → Type 0
+RunReadLacks None read after = ⊥
+RunReadLacks (Some s) read after =
+    (standing : Standing) × IsDoneOrNot (AnswersAs s.setting s.standing read) s.standing standing
+    × (after ≡ Some (record s { standing = standing }))
+
+-- this is read of a line that asks nothing of the sessions
+abbrev pub IsReadOf : List ℕ → Result Line LineFault → Type 0
+IsReadOf line read = LineDue line read × (asked_of line ≡ asking.Script) × (is_blank_line line ≡ false)
 
 -- what the sessions answer, whatever a script would
 abbrev pub AsksOf : Setting → Option Session → Asking → LineAnswer → Option Session → Type 0
@@ -76,3 +98,10 @@ AnswersIn old name line a new =
 
 abbrev pub LacksIn : Sessions → List ℕ → List ℕ → Sessions → Type 0
 LacksIn old name line new = LacksUnder (fixed old) (held old name) line (held new name) × OthersStay old name new
+
+-- whatever line this was read of
+abbrev pub AnswersRead : Sessions → List ℕ → Result Line LineFault → LineAnswer → Sessions → Type 0
+AnswersRead old name read a new = (line : List ℕ) → IsReadOf line read → AnswersIn old name line a new
+
+abbrev pub LacksRead : Sessions → List ℕ → Result Line LineFault → Sessions → Type 0
+LacksRead old name read new = (line : List ℕ) → IsReadOf line read → LacksIn old name line new
