@@ -80,7 +80,7 @@ fn judge(catalog: &Catalog, rules: &Indexed, way: Way, ue: Addr, header: &Header
     requires { IsTable (offers_of catalog.now) rules.now.entries }
 {
     match way {
-        Way::Index => rules.judged(catalog, ue, header).verdict,
+        Way::Index => rules.classify(catalog, ue, header),
         Way::Scan => rules.table().classify(catalog, ue, header),
     }
 }
