@@ -1,12 +1,13 @@
 -- Packets that a worker takes, and the verdicts that C gets (own choice).
 use Rattle.std.specs.Prelude.{ℕ, ◌≡◌, ◌+◌, Bool, true, false, nat_lt, List, [], ◌∷◌, Option, Some, None, Result, Ok, Err}
 use Rattle.pcef_session.specs.declared.batch.Item.{Item}
+use Rattle.pcef_world.specs.Newest.{flags_of, outcome_of}
 use Rattle.pcef_handle.specs.Attached.{Attached, last_of}
 use Rattle.pcef_handle.specs.Working.{TakesPacket}
 use Rattle.pcef_handle.specs.declared.attached.TakeRefusal.{TakeRefusal}
 use Rattle.pcef_handle.specs.declared.attached.TakeRefusal.TheVariants as taking
 use Rattle.pcef_handle.specs.declared.worker.WorkerHandle.{WorkerHandle}
-use Rattle.pcef_c.specs.Judging.{verdict_bearer, direction_by_flag, flags_of, place_number, status_of, unjudged}
+use Rattle.pcef_c.specs.Judging.{bearer_of, direction_by_flag, place_number, status_of, unjudged}
 use Rattle.pcef_c.specs.Numbers.{packet_number}
 use Rattle.pcef_c.specs.declared.judging.CPacket.{CPacket}
 use Rattle.pcef_c.specs.declared.judging.CVerdict.{CVerdict}
@@ -15,8 +16,8 @@ use Rattle.pcef_c.specs.declared.judging.CVerdict.{CVerdict}
 abbrev pub taken_verdict : Item → Option ℕ → CVerdict
 taken_verdict i place = record {
   generation = i.row.generation;
-  status = status_of i.row.verdict;
-  bearer = verdict_bearer i.row.verdict;
+  status = status_of (outcome_of i.row.verdict);
+  bearer = bearer_of (outcome_of i.row.verdict);
   place = place_number place;
   slots = flags_of i.slots.items 0;
 }

@@ -1,13 +1,12 @@
 //! Packets as C passes them, and their verdicts as C gets them.
 
-ghost use Rattle.std.specs.Prelude.{◌≡◌};
-ghost use Rattle.pcef_c.specs.Judging.{AreJudged, IsVerdictOn, verdict_bearer, direction_by_flag, flag_of, flags_of, place_number, status_of, c_verdict_of};
+ghost use Rattle.std.specs.Prelude.{◌≡◌, ◌≤◌, length};
+ghost use Rattle.pcef_c.specs.Judging.{AreAsked, AreJudged, IsVerdictOn, bearer_of, direction_by_flag, place_number, status_of, c_verdict_of};
 
 use crate::numbers::packet_number;
-use pcef_handle::{Handle, JudgeRefusal, Judgement};
-use pcef_model::Verdict;
+use pcef_handle::{Handle, JudgeRefusal};
 use pcef_packet::Dir;
-use pcef_rule::Slot;
+use pcef_world::{Brief, Outcome};
 
 /// The first octets of a packet, its length, and its direction.
 #[repr(C)]
@@ -42,22 +41,22 @@ pub(crate) fn dir_of(up: u8) -> Dir
     if up == 0 { Dir::Down } else { Dir::Up }
 }
 
-pub(crate) fn status_of(verdict: &Verdict) -> u8
-    ensures { result ≡ status_of verdict.now }
+pub(crate) fn status_of(outcome: Outcome) -> u8
+    ensures { result ≡ status_of outcome }
 {
-    match verdict {
-        Verdict::Passed { .. } => 0,
-        Verdict::Gated { .. } => 1,
-        Verdict::Unmatched => 2,
-        Verdict::Stray => 3,
+    match outcome {
+        Outcome::Passed(_) => 0,
+        Outcome::Gated => 1,
+        Outcome::Unmatched => 2,
+        Outcome::Stray => 3,
     }
 }
 
-pub(crate) fn bearer_of(verdict: &Verdict) -> u8
-    ensures { result ≡ verdict_bearer verdict.now }
+pub(crate) fn bearer_of(outcome: Outcome) -> u8
+    ensures { result ≡ bearer_of outcome }
 {
-    match verdict {
-        Verdict::Passed { bearer, .. } => bearer.0,
+    match outcome {
+        Outcome::Passed(bearer) => bearer.0,
         _ => 0,
     }
 }
@@ -69,28 +68,6 @@ pub(crate) fn place_of(place: Option<u8>) -> u8
         Some(place) => place,
         None => 255,
     }
-}
-
-/// The flags of slots 0 to 7.
-const FLAGS: [u8; 8] = [1, 2, 4, 8, 16, 32, 64, 128];
-
-fn flag_of(slot: Slot) -> u8
-    ensures { result ≡ flag_of slot.0 }
-{
-    match FLAGS.get(usize::from(slot.0)) {
-        Some(flag) => *flag,
-        None => 0,
-    }
-}
-
-pub(crate) fn flags_of(slots: &[Slot]) -> u8
-    ensures { result ≡ flags_of slots.now 0 }
-{
-    let mut flags = 0u8;
-    for slot in slots {
-        flags |= flag_of(*slot);
-    }
-    flags
 }
 
 /// The verdict on a packet that wasn't judged.
@@ -106,16 +83,16 @@ pub(crate) fn unjudged(status: u8) -> CVerdict
     }
 }
 
-fn c_verdict_of(judged: &Result<Judgement, JudgeRefusal>) -> CVerdict
+fn c_verdict_of(judged: &Result<Brief, JudgeRefusal>) -> CVerdict
     ensures { result ≡ c_verdict_of judged.now }
 {
     match judged {
-        Ok(judgement) => CVerdict {
-            generation: judgement.generation,
-            status: status_of(&judgement.verdict),
-            bearer: bearer_of(&judgement.verdict),
-            place: place_of(judgement.place),
-            slots: flags_of(&judgement.slots),
+        Ok(brief) => CVerdict {
+            generation: brief.generation,
+            status: status_of(brief.outcome),
+            bearer: bearer_of(brief.outcome),
+            place: place_of(brief.place),
+            slots: brief.slots,
         },
         Err(JudgeRefusal::NoSession) => unjudged(4),
         Err(JudgeRefusal::NoPacket(fault)) => unjudged(packet_number(*fault)),
@@ -123,22 +100,65 @@ fn c_verdict_of(judged: &Result<Judgement, JudgeRefusal>) -> CVerdict
     }
 }
 
-fn verdict_on(handle: &Handle, packet: &CPacket<'_>) -> CVerdict
-    ensures { IsVerdictOn handle.now packet.now result }
+fn verdict_on(handle: &mut Handle, packet: &CPacket<'_>) -> CVerdict
+    ensures handle { handle.new ≡ handle.old }
+    ensures verdict { IsVerdictOn handle.old packet.now result }
 {
     c_verdict_of(&handle.judge(dir_of(packet.up), packet.octets, packet.whole))
 }
 
+/// How many packets are asked for at once.
+const AT_ONCE: usize = 32;
+
+/// The first octet of a packet, or 0 where none is at hand.
+fn first_octet(packet: &CPacket<'_>) -> u8 {
+    match packet.octets.first() {
+        Some(octet) => *octet,
+        None => 0,
+    }
+}
+
+/// Asks for the packets from one place to another, so that they are on their way from memory before the first of them
+/// is judged: an octet of each is read. It is written where the packet's verdict will stand, for what nobody reads would
+/// be left out.
+fn ask_for(packets: &[CPacket<'_>], verdicts: &mut [CVerdict], from: usize, end: usize)
+    requires packets { end ≤ length packets.now }
+    requires verdicts { end ≤ length verdicts.old }
+    ensures { AreAsked verdicts.old verdicts.new from end }
+{
+    for place in from..end {
+        verdicts[place] = unjudged(first_octet(&packets[place]));
+    }
+}
+
+/// Asks for the packets from a place on, below `count`, where so many were judged that the next are due.
+fn ask_ahead(packets: &[CPacket<'_>], verdicts: &mut [CVerdict], place: usize, count: usize)
+    requires packets { count ≤ length packets.now }
+    requires verdicts { count ≤ length verdicts.old }
+    ensures { AreAsked verdicts.old verdicts.new place count }
+{
+    if place % AT_ONCE == 0 {
+        ask_for(
+            packets,
+            verdicts,
+            place,
+            count.min(place.saturating_add(AT_ONCE)),
+        );
+    }
+}
+
 /// Judges as many packets as there are verdicts, and returns their number.
 pub(crate) fn judge_all(
-    handle: &Handle,
+    handle: &mut Handle,
     packets: &[CPacket<'_>],
     verdicts: &mut [CVerdict],
 ) -> usize
-    ensures { AreJudged handle.now packets.now verdicts.old verdicts.new result }
+    ensures handle { handle.new ≡ handle.old }
+    ensures judged { AreJudged handle.old packets.now verdicts.old verdicts.new result }
 {
     let count = packets.len().min(verdicts.len());
     for place in 0..count {
+        ask_ahead(packets, verdicts, place, count);
         verdicts[place] = verdict_on(handle, &packets[place]);
     }
     count

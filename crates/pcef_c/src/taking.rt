@@ -3,21 +3,21 @@
 ghost use Rattle.std.specs.Prelude.{◌≡◌};
 ghost use Rattle.pcef_c.specs.Taking.{HasRowFor, IsPacketTaken, IsVerdictOf, TakesAll, ends_taking, take_number, taken_verdict};
 
-use crate::judging::{
-    CPacket, CVerdict, bearer_of, dir_of, flags_of, place_of, status_of, unjudged,
-};
+use crate::judging::{CPacket, CVerdict, bearer_of, dir_of, place_of, status_of, unjudged};
 use crate::numbers::packet_number;
 use pcef_handle::{TakeRefusal, WorkerHandle};
 use pcef_session::Item;
+use pcef_world::{Outcome, flags_of};
 
 /// The verdict that a row has, with the place of the rule that decided.
 fn taken_verdict(item: &Item, place: Option<u8>) -> CVerdict
     ensures { result ≡ taken_verdict item.now place }
 {
+    let outcome = Outcome::of(&item.row.verdict);
     CVerdict {
         generation: item.row.generation,
-        status: status_of(&item.row.verdict),
-        bearer: bearer_of(&item.row.verdict),
+        status: status_of(outcome),
+        bearer: bearer_of(outcome),
         place: place_of(place),
         slots: flags_of(&item.slots),
     }
