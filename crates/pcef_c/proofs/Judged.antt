@@ -21,16 +21,17 @@ asked_more before now from end place v since within asked = record {
   behind = λ n w past. get_or-set_other now place n v w (λ e. omega (arith, within, past, e)) ∙ asked.behind n w past;
 }
 
--- so have those up to it, where the packets from there on were asked for and the one there gets its verdict
-pub judged_more : (h : Handle) (packets : List CPacket) (before now asked : List CVerdict) (place count : ℕ) (d : CPacket) (v : CVerdict) → place < length packets → place < length asked → place < count
-    → AreAsked now asked place count → IsVerdictOn h (get_or packets place d) v → AreJudgedBelow h packets before now place count → AreJudgedBelow h packets before (set asked place v) (place + 1) count
-judged_more h packets before now asked place count d v within inside less_count ahead here (long, each, others) = (
+-- so have those up to it, where the packets from there on were asked for and the one there gets its verdict; the handle
+-- stayed until then
+pub judged_more : (h held : Handle) (packets : List CPacket) (before now asked : List CVerdict) (place count : ℕ) (d : CPacket) (v : CVerdict) → place < length packets → place < length asked → place < count
+    → AreAsked now asked place count → held ≡ h → IsVerdictOn held (get_or packets place d) v → AreJudgedBelow h packets before now place count → AreJudgedBelow h packets before (set asked place v) (place + 1) count
+judged_more h held packets before now asked place count d v within inside less_count ahead stayed here (long, each, others) = (
   length-set asked place v ∙ ahead.length_is ∙ long,
   λ n packet w less.
       below_more (λ k. IsVerdictOn h (get_or packets k packet) (get_or (set asked place v) k w)) place
       (λ k below. subst (λ x. IsVerdictOn h (get_or packets k packet) x) (sym (get_or-set_other asked place k v w (λ e. omega (arith, below, e)) ∙ ahead.below k w below)) (each k packet w below))
       (subst (λ x. IsVerdictOn h (get_or packets place packet) x) (sym (get_or-set_same asked place v w inside))
-      (subst (λ p. IsVerdictOn h p v) (get_or_default packets place d packet within) here)) n less,
+      (subst (λ p. IsVerdictOn h p v) (get_or_default packets place d packet within) (subst (λ x. IsVerdictOn x (get_or packets place d) v) stayed here))) n less,
   λ n w past. get_or-set_other asked place n v w (λ e. omega (arith, less_count, past, e)) ∙ ahead.behind n w past ∙ others n w past,
 )
 

@@ -31,7 +31,9 @@ fn frames_argument<'a>(alloc: Global) -> Result<Arg<'a>, AllocError> {
     Arg::new(alloc, "frames")
         .long("frames")
         .action(ArgAction::SetTrue)
-        .help("Reads binary frames, each of which means a line, in the place of lines, in one thread")
+        .help(
+            "Reads binary frames, each of which means a line, in the place of lines, in one thread",
+        )
         .conflicts_with("threads")
 }
 

@@ -1,6 +1,4 @@
-use Rattle.std.proofs.Common.{◌∙◌, arith, subst}
-use Rattle.pcef_handle.specs.declared.held.Handle.{Handle}
-use Rattle.pcef_c.specs.Judging.{IsVerdictOn}
+use Rattle.std.proofs.Common.{◌∙◌, arith}
 use Rattle.pcef_c.proofs.Judged.{judged_more}
 use Rattle.pcef_c.proofs.judging.judge_all.Goals as goal
 
@@ -8,8 +6,8 @@ pub loop-place-preserved : goal.loop-place-preserved
 loop-place-preserved c =
     let h = c.loop-place.invariant in let inside = c.loop-place-test.true in (
       c.verdict_on.ensures.handle ∙ h.0,
-      judged_more c.args.handle.now c.args.packets.now c.args.verdicts.now c.loop-place.verdicts c.ask_ahead.new.verdicts c.loop-place.place c.min-count.result _ c.verdict_on.result (search arith) (search arith) (search arith)
-          c.ask_ahead.ensures (subst (λ (x : Handle). IsVerdictOn x _ c.verdict_on.result) h.0 c.verdict_on.ensures.verdict) h.1,
+      judged_more c.args.handle.now c.loop-place.handle c.args.packets.now c.args.verdicts.now c.loop-place.verdicts c.ask_ahead.new.verdicts c.loop-place.place c.min-count.result _ c.verdict_on.result (search arith) (search arith) (search arith)
+          c.ask_ahead.ensures h.0 c.verdict_on.ensures.verdict h.1,
     )
 
 pub returns-clause-judged : goal.returns-clause-judged
