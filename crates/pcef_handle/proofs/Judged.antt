@@ -1,5 +1,5 @@
 -- A packet that the table of the newest generation judges is judged as the journal says.
-use Rattle.std.proofs.Common.{ℕ, ◌≡◌, List, Ok, arith, length, refl, subst, sym, take}
+use Rattle.std.proofs.Common.{ℕ, ◌≡◌, List, Ok, arith, length, subst, sym, take}
 use Rattle.std.proofs.lemmas.List.{take_all}
 use Rattle.pcef_packet.specs.HeaderOf.{header_of}
 use Rattle.pcef_packet.specs.declared.header.Dir.{Dir}

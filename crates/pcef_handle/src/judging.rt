@@ -37,12 +37,7 @@ impl OpenSession {
 
     /// Judges a packet of `whole` octets that begins with `front`.
     #[inline(never)]
-    fn judge_front(
-        &mut self,
-        dir: Dir,
-        front: &[u8],
-        whole: usize,
-    ) -> Result<Brief, JudgeRefusal>
+    fn judge_front(&mut self, dir: Dir, front: &[u8], whole: usize) -> Result<Brief, JudgeRefusal>
         ensures session { self.new ≡ self.old }
         ensures judged { JudgesFront self.old dir front.now whole result }
         ensures at_hand { whole ≤ length front.now → result ≢ Err TooFew }
@@ -57,12 +52,7 @@ impl OpenSession {
 
     /// The same, of a packet that most are like.
     #[inline(always)]
-    fn judge_plain(
-        &mut self,
-        dir: Dir,
-        front: &[u8],
-        whole: usize,
-    ) -> Result<Brief, JudgeRefusal>
+    fn judge_plain(&mut self, dir: Dir, front: &[u8], whole: usize) -> Result<Brief, JudgeRefusal>
         ensures session { self.new ≡ self.old }
         ensures judged { JudgesFront self.old dir front.now whole result }
         ensures at_hand { whole ≤ length front.now → result ≢ Err TooFew }

@@ -5,8 +5,8 @@ ghost use Rattle.pcef_model.specs.ProfileModel.{setting_of};
 ghost use Rattle.pcef_built_in.specs.BuiltIn.{built_in_offers};
 ghost use Rattle.pcef_handle.specs.Opening.{OpensHandle, OpensText, ReadsProfile, Starts, StartsSession};
 
-use crate::held::{Handle, OpenSession};
 use crate::attached::MOST_FLOWS;
+use crate::held::{Handle, OpenSession};
 use pcef_built_in::ShapedCatalog;
 use pcef_catalog::Offers;
 use pcef_line::LineReader;

@@ -1,6 +1,4 @@
-use Rattle.std.proofs.Common.{rules, ◌≡◌, ◌∙◌, Ok, ap, subst, sym, take}
-use Rattle.pcef_packet.specs.HeaderOf.{header_of}
-use Rattle.pcef_front.specs.Fronts.{IsSettledBy}
+use Rattle.std.proofs.Common.{rules, Ok, ap}
 use Rattle.pcef_handle.proofs.Judged.{plain_settles}
 use Rattle.pcef_handle.proofs.held.OpenSession.judge_plain.Goals as goal
 
