@@ -1,4 +1,4 @@
-"""What the tests of `pcef_capture` share: captures made by hand, and what the program writes and says of them."""
+"""What the tests of `pcef capture` share: captures made by hand, and what the program writes and says of them."""
 import struct
 
 from commands import DNS_ANSWER, line, take
@@ -49,7 +49,7 @@ ANEW = "it is cut or damaged there: copy or capture it anew; the lines of the pa
 
 def said(text):
     """A line of the program, below the first one."""
-    return f"pcef_capture: {text}"
+    return f"pcef capture: {text}"
 
 
 def fault(number, hint=ANEW):

@@ -1,9 +1,9 @@
-"""Diameter messages for the tests of `pcef_gx_filter` (RFC 6733, TS 29.212), and a PCRF that speaks with it over pipes."""
+"""Diameter messages for the tests of `pcef gx` (RFC 6733, TS 29.212), and a PCRF that speaks with it over pipes."""
 import struct
 import subprocess
 import threading
 
-from programs import PCEF_GX_FILTER, Ended
+from programs import PCEF_GX, Ended
 
 BASE, GX = 0, 16777238
 THREE_GPP = 10415
@@ -100,7 +100,7 @@ class Filter:
         names = ["--origin-host", HOST.decode(), *realms]
         last = [profile] if profile else []
         self.process = subprocess.Popen(
-            [PCEF_GX_FILTER, *first, *names, "--first-number", "7", *words, *last],
+            [*PCEF_GX, *first, *names, "--first-number", "7", *words, *last],
             stdin=subprocess.PIPE,
             stdout=subprocess.PIPE,
             stderr=subprocess.PIPE,

@@ -1,4 +1,4 @@
-"""Binary frames for `pcef_many --frames`, made and read by themselves: `docs/FORMATS.md` says what they mean."""
+"""Binary frames for `pcef many --frames`, made and read by themselves: `docs/FORMATS.md` says what they mean."""
 import re
 import struct
 

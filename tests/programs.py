@@ -1,4 +1,4 @@
-"""What the tests of the built programs share: where the programs are, and how one is run."""
+"""What the tests of the built program share: where it is, and how one of its words is run."""
 import os
 import pty
 import subprocess
@@ -9,17 +9,18 @@ from typing import NamedTuple
 TOP = os.path.dirname(os.path.dirname(os.path.abspath(__file__)))
 
 
-def built(name):
-    """The program of a crate, as the gate or `rt run` builds it."""
-    return os.path.join(TOP, "crates", name, "out", name)
+# The program, as the gate or `rt run` builds it, and then each of its words that has options of its own.
+PCEF = (os.path.join(TOP, "crates", "pcef_cli", "out", "pcef_cli"),)
+PCEF_CHECK = (*PCEF, "check")
+PCEF_MANY = (*PCEF, "many")
+PCEF_CAPTURE = (*PCEF, "capture")
+PCEF_PAGE = (*PCEF, "page")
+PCEF_GX = (*PCEF, "gx")
 
 
-PCEF = built("pcef_cli")
-PCEF_MANY = built("pcef_many")
-PCEF_CAPTURE = built("pcef_capture")
-PCEF_CHECK = built("pcef_check")
-PCEF_REPORT = built("pcef_report")
-PCEF_GX_FILTER = built("pcef_gx_filter")
+def name_of(program):
+    """What stands before what a program says: its name, and its word."""
+    return " ".join(["pcef", *program[1:]])
 
 
 class Ended(NamedTuple):
@@ -52,7 +53,7 @@ class ProgramTest(unittest.TestCase):
     def run_on(self, program, words, given="", environment=None):
         """How the program ends on these words and on `given` as its standard input."""
         ran = subprocess.run(
-            [program, *words],
+            [*program, *words],
             input=octets(given),
             stdout=subprocess.PIPE,
             stderr=subprocess.PIPE,
@@ -67,7 +68,7 @@ class ProgramTest(unittest.TestCase):
         master, terminal = pty.openpty()
         with open(os.path.join(self.room, given), "rb") as file, open(terminal, "wb") as shown:
             subprocess.run(
-                [program, *words], stdin=file, stdout=subprocess.DEVNULL, stderr=shown, cwd=self.room, timeout=60
+                [*program, *words], stdin=file, stdout=subprocess.DEVNULL, stderr=shown, cwd=self.room, timeout=60
             )
         try:
             return os.read(master, 10000).decode()

@@ -1,4 +1,4 @@
-"""The lines that `pcef_capture` writes: of packets, by workers in turn, by its words, and while packets come."""
+"""The lines that `pcef capture` writes: of packets, by workers in turn, by its words, and while packets come."""
 import os
 import select
 import subprocess
@@ -103,7 +103,7 @@ class Words(CaptureTest):
                     "error: the following required arguments were not provided:",
                     "  <FILE>",
                     "",
-                    f"Usage: pcef_capture {right}",
+                    f"Usage: pcef capture {right}",
                     "",
                     "For more information, try '--help'.",
                 )
@@ -139,7 +139,7 @@ class Streams(CaptureTest):
             os.close(reader)
             with self.subTest(words=words), open(writer, "wb") as closed:
                 ran = subprocess.run(
-                    [PCEF_CAPTURE, *words, "-"],
+                    [*PCEF_CAPTURE, *words, "-"],
                     input=RECORDED,
                     stdout=closed,
                     stderr=subprocess.PIPE,
@@ -160,12 +160,12 @@ class Streams(CaptureTest):
     def test_a_full_disk_is_a_fault(self):
         told = lines("write fault", said("Standard output: No space left on device (os error 28)"))
         with open("/dev/full", "wb") as full:
-            ran = subprocess.run([PCEF_CAPTURE, "--ue", UE, "-"], input=RECORDED, stdout=full, stderr=subprocess.PIPE)
+            ran = subprocess.run([*PCEF_CAPTURE, "--ue", UE, "-"], input=RECORDED, stdout=full, stderr=subprocess.PIPE)
         self.assertEqual((ran.returncode, ran.stderr), (4, told.encode()))
 
     def test_a_line_is_flushed_before_more_is_read(self):
         pipe = subprocess.PIPE
-        words = [PCEF_CAPTURE, "--ue", UE, "--batch", "1", "-"]
+        words = [*PCEF_CAPTURE, "--ue", UE, "--batch", "1", "-"]
         with subprocess.Popen(words, stdin=pipe, stdout=pipe, stderr=pipe, bufsize=0) as recorded:
             for length, octet in enumerate(RECORDED, start=1):
                 recorded.stdin.write(bytes([octet]))

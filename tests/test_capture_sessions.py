@@ -1,4 +1,4 @@
-"""The lines that `pcef_capture --sessions` writes for the sessions of a map, in one pass; and faults of maps."""
+"""The lines that `pcef capture --sessions` writes for the sessions of a map, in one pass; and faults of maps."""
 import os
 import random
 import struct
@@ -121,7 +121,7 @@ class Sessions(CaptureTest):
         wrote = of("a", taken(BETWEEN, direction="up")) + of("b", taken(BETWEEN)) + flushes("b", "a")
         self.assertEqual((came.status, came.wrote), (0, wrote.encode()))
 
-    def test_pcef_many_answers_a_session_as_its_own_script(self):
+    def test_many_sessions_answer_as_scripts_of_their_own(self):
         examples = os.path.join(TOP, "examples")
         with open(os.path.join(examples, "browsing.jsonl"), encoding="ascii") as file:
             rules = file.read()

@@ -1,4 +1,4 @@
-"""The times that `pcef_capture --times` writes: of classic files in either order and unit, and of files of blocks by
+"""The times that `pcef capture --times` writes: of classic files in either order and unit, and of files of blocks by
 the options of their interfaces."""
 import os
 import struct

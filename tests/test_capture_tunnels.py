@@ -1,4 +1,4 @@
-"""The packets that `pcef_capture --gtp` takes of tunnels, and those that it passes over. That tshark 4.0.17 reads the
+"""The packets that `pcef capture --gtp` takes of tunnels, and those that it passes over. That tshark 4.0.17 reads the
 same TEIDs and inner addresses of `CARRIED` was seen when the test was written."""
 import os
 

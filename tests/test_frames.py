@@ -1,4 +1,4 @@
-"""Binary frames for `pcef_many --frames`: each has the answer of the line that it means."""
+"""Binary frames for `pcef many --frames`: each has the answer of the line that it means."""
 import os
 import random
 import re

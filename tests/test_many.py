@@ -1,4 +1,4 @@
-"""Lines of many sessions for `pcef_many`, in one thread and in several."""
+"""Lines of many sessions for `pcef many`, in one thread and in several."""
 import json
 import os
 import re
@@ -228,7 +228,7 @@ class Many(ProgramTest):
 
     def start(self, threads, output=subprocess.PIPE, given=subprocess.PIPE):
         """The program in so many threads, between these streams."""
-        words = [PCEF_MANY, "--threads", str(threads), "profile.toml"]
+        words = [*PCEF_MANY, "--threads", str(threads), "profile.toml"]
         pipe = subprocess.PIPE
         process = subprocess.Popen(words, stdin=given, stdout=output, stderr=pipe, cwd=self.room, bufsize=0)
         self.addCleanup(process.communicate)
@@ -366,7 +366,7 @@ class Metrics(ProgramTest):
                 self.assertEqual(sorted(os.listdir(self.room)), ["metrics", "profile.toml"])
 
     def start_keeping(self, threads):
-        words = [PCEF_MANY, "--threads", str(threads), "--metrics", "metrics", "--every", "1", "profile.toml"]
+        words = [*PCEF_MANY, "--threads", str(threads), "--metrics", "metrics", "--every", "1", "profile.toml"]
         with open(os.path.join(self.room, "answers"), "wb") as answers:
             process = subprocess.Popen(words, stdin=subprocess.PIPE, stdout=answers, cwd=self.room, bufsize=0)
         self.addCleanup(process.wait)
@@ -395,7 +395,7 @@ class Metrics(ProgramTest):
                 self.assertEqual(process.wait(60), 0)
 
     def test_a_file_that_cannot_be_written(self):
-        said = lines("write fault", "pcef_many: nowhere/metrics: No such file or directory (os error 2)")
+        said = lines("write fault", "pcef many: nowhere/metrics: No such file or directory (os error 2)")
         self.ends(PCEF_MANY, ["--metrics", "nowhere/metrics", "profile.toml"], f"a {OPEN}", 4, said=said)
 
     def test_the_seconds_between_two_writes(self):

@@ -1,4 +1,4 @@
-"""The lines that `pcef_many` shows for a session: their text, and that a new session which is given them is like it."""
+"""The lines that `pcef many` shows for a session: their text, and that a new session which is given them is like it."""
 import json
 import random
 

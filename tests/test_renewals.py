@@ -1,4 +1,4 @@
-"""Sessions of `pcef_many` that are renewed: what is answered, what stays, and what gets another number."""
+"""Sessions of `pcef many` that are renewed: what is answered, what stays, and what gets another number."""
 import json
 from collections import Counter
 

@@ -50,11 +50,11 @@ PLAYED = [(SCRIPT, SESSION, 0), (SCRIPT, AT_FAULT, 1), (SESSIONS, MANY, 1)]
 # What is said of streams that fail.
 UNREAD = {
     PCEF: lines("read fault", "pcef: standard input fails; the whole lines of a script before that are answered"),
-    PCEF_MANY: lines("read fault", "pcef_many: standard input failed"),
+    PCEF_MANY: lines("read fault", "pcef many: standard input failed"),
 }
 UNWRITTEN = {
     PCEF: lines("write fault"),
-    PCEF_MANY: lines("write fault", "pcef_many: standard output takes no more"),
+    PCEF_MANY: lines("write fault", "pcef many: standard output takes no more"),
 }
 
 # How many octets of lines a program reads at once.
@@ -164,7 +164,7 @@ class Streams(StreamTest):
         ]:
             with self.subTest(program=program[0]):
                 pipe = subprocess.PIPE
-                with subprocess.Popen(program, stdin=pipe, stdout=pipe, cwd=self.room, bufsize=0) as asking:
+                with subprocess.Popen([*program[0], *program[1:]], stdin=pipe, stdout=pipe, cwd=self.room, bufsize=0) as asking:
                     # The last line fills all that is read at once.
                     for given in asked, asked, asked.rjust(BLOCK):
                         asking.stdin.write(given)

@@ -1,4 +1,4 @@
-"""`pcef_many` where threads can't be started, and where its first thread finds no memory, as `threads.c` says."""
+"""`pcef many` where threads can't be started, and where its first thread finds no memory, as `threads.c` says."""
 import os
 
 from commands import ATTACH, SHOW, line, profile

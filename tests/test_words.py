@@ -1,22 +1,32 @@
 """The words of `pcef`: what is usage, what stands below it, and what is help."""
 import os
+import shutil
 import subprocess
 
 from commands import profile
-from programs import PCEF, PCEF_CAPTURE, PCEF_CHECK, PCEF_GX_FILTER, PCEF_MANY, PCEF_REPORT, ProgramTest, lines
+from programs import PCEF, PCEF_CAPTURE, PCEF_CHECK, PCEF_GX, PCEF_MANY, PCEF_PAGE, TOP, ProgramTest, lines, name_of
 
 USAGE = "usage: pcef script PROFILE | pcef run PROFILE WORKERS | pcef pool UP DOWN PROFILE..."
 
-# The programs over clap.
-OTHERS = PCEF_CAPTURE, PCEF_CHECK, PCEF_GX_FILTER, PCEF_MANY, PCEF_REPORT
+# The words that have options of their own.
+OTHERS = PCEF_CAPTURE, PCEF_CHECK, PCEF_GX, PCEF_MANY, PCEF_PAGE
 
 # Words that ask for help. What stands behind is passed over.
 HELP = [["--help"], ["-h"], ["--help", "a"], ["script", "--help"], ["run", "-h", "a"], ["pool", "--help", "1", "2"]]
+HELP += [["help"], ["help", "script"], ["help", "run", "a"], ["help", "pool"], ["help", "help"], ["help", "--help"]]
+
+THERE_ARE = "there are script, run, pool, check, many, capture, page and gx."
 
 # Words that ask for nothing, and what stands below the usage.
 NAMED = [
-    ([], "A command is missing: script, run or pool."),
-    (["scripts", "a"], "There is no command 'scripts': there are script, run and pool."),
+    ([], "A command is missing: script, run, pool, check, many, capture, page or gx."),
+    (["scripts", "a"], f"There is no command 'scripts': {THERE_ARE}"),
+    (["help", "scripts"], f"There is no command 'scripts': {THERE_ARE}"),
+    # The words are whole, and stand first.
+    (["manyy", "profile.toml"], f"There is no command 'manyy': {THERE_ARE}"),
+    (["Many", "profile.toml"], f"There is no command 'Many': {THERE_ARE}"),
+    (["", "many"], f"There is no command '': {THERE_ARE}"),
+    (["--threads", "many"], f"There is no command '--threads': {THERE_ARE}"),
     (["script"], "script takes PROFILE: 1 word, found 0."),
     (["run", "a"], "run takes PROFILE and WORKERS: 2 words, found 1."),
     (["run", "a", "17"], "WORKERS is 1 to 16, found '17'."),
@@ -58,11 +68,48 @@ class Words(ProgramTest):
             with self.subTest(words=words):
                 self.ends(PCEF, words, "x", wrote=f"{USAGE}\n{below}\n")
 
-    def test_each_program_has_a_version(self):
+    def test_help_names_each_word(self):
+        said = self.run_on(PCEF, ["--help"]).wrote.decode()
+        for word in ["script", "run", "pool", *[program[-1] for program in OTHERS]]:
+            self.assertRegex(said, rf"(?m)^  {word} ")
+
+    def test_each_word_has_a_version(self):
         for program in OTHERS:
             for word in "--version", "-V":
                 with self.subTest(program=program, word=word):
-                    self.ends(program, [word], wrote=f"{os.path.basename(program)} 0.1\n")
+                    self.ends(program, [word], wrote=f"{name_of(program)} 0.1\n")
+
+    def test_each_word_has_help_of_its_own(self):
+        for program in OTHERS:
+            with self.subTest(program=program):
+                came = self.run_on(program, ["--help"])
+                self.assertEqual((came.status, came.said), (0, b""))
+                self.assertIn(f"\nUsage: {name_of(program)} ", came.wrote.decode())
+                # What stands behind the word isn't looked at.
+                for words in ["help", program[-1]], ["help", program[-1], b"a\xff"], [program[-1], "-h"]:
+                    self.assertEqual(self.run_on(PCEF, words), came)
+
+    def test_words_that_are_no_text(self):
+        for program in OTHERS:
+            with self.subTest(program=program):
+                self.ends(program, [b"a\xff"], status=2, said=lines("usage: an argument isn't UTF-8"))
+
+    def test_each_word_on_files_of_its_own(self):
+        """Each folder of `tests/words` has the words, the files and the input of a call, and what is written for it."""
+        folder = os.path.join(TOP, "tests", "words")
+        self.assertEqual(sorted(os.listdir(folder)), sorted(program[-1] for program in OTHERS))
+        for program in OTHERS:
+            own = os.path.join(folder, program[-1])
+
+            def read(name):
+                place = os.path.join(own, name)
+                with open(place if os.path.exists(place) else os.devnull, "rb") as file:
+                    return file.read()
+
+            with self.subTest(program=program):
+                shutil.copytree(os.path.join(own, "data"), self.room, dirs_exist_ok=True)
+                came = self.run_on(program, read("args").decode().splitlines(), read("stdin"))
+                self.assertEqual((came.status, came.wrote), (int(read("status") or 0), read("stdout")))
 
     def test_the_version(self):
         for words in ["--version"], ["-V"], ["--version", "profile.toml"], ["--version", "--help"]:
@@ -81,13 +128,13 @@ class Words(ProgramTest):
     def help_on(self, program, stream):
         """How the program ends that writes its help on a stream, and what it says."""
         with stream:
-            ran = subprocess.run([program, "--help"], stdout=stream, stderr=subprocess.PIPE, timeout=60)
+            ran = subprocess.run([*program, "--help"], stdout=stream, stderr=subprocess.PIPE, timeout=60)
         return ran.returncode, ran.stderr.decode()
 
     def test_help_that_nobody_takes(self):
         self.assertEqual(self.help_on(PCEF, open("/dev/full", "wb")), (4, "write fault\n"))
         for program in OTHERS:
-            said = f"{os.path.basename(program)}: standard output: No space left on device (os error 28)"
+            said = f"{name_of(program)}: standard output: No space left on device (os error 28)"
             with self.subTest(program=program):
                 self.assertEqual(self.help_on(program, open("/dev/full", "wb")), (4, lines("write fault", said)))
 

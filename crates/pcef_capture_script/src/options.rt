@@ -87,7 +87,7 @@ fn sessions<'a>(alloc: Global) -> Arg<'a>
     ensures place { result.global ≡ false }
 {
     let help =
-        "A file with a line for each session, NAME ADDRESS, in the place of --ue: writes lines for pcef_many";
+        "A file with a line for each session, NAME ADDRESS, in the place of --ue: writes lines for pcef many";
     value(alloc, "sessions", "MAP", help).long("sessions")
 }
 
@@ -183,7 +183,7 @@ fn with_ue<'a>(alloc: Global) -> Result<Command<'a>, AllocError>
 {
     Command::new(alloc, "pcef_capture")
         .version("0.1")
-        .about("Writes the packets of a capture as lines of a script of pcef, or of pcef_many")
+        .about("Writes the packets of a capture as lines of a script of pcef, or of pcef many")
         .arg(ue(alloc))
 }
 

@@ -1,5 +1,6 @@
 //! The arguments, and the files that they name.
 
+use crate::asked::is_help;
 use pcef_explain::read_text;
 use pcef_program::words::paths_of;
 use std::alloc::{AllocError, Global};
@@ -7,8 +8,12 @@ use std::env::{Env, FillError};
 use std::io::{self, ErrorKind};
 use std::str;
 
-/// The argument of this number, if there is one.
-fn word<E: Env>(alloc: Global, env: &E, number: usize) -> Result<Option<Vec<u8>>, AllocError> {
+/// The argument of this number, if there is one, as octets: it need not be UTF-8. Takes memory for it.
+pub(crate) fn word<E: Env>(
+    alloc: Global,
+    env: &E,
+    number: usize,
+) -> Result<Option<Vec<u8>>, AllocError> {
     let mut room = 256usize;
     for _ in 0..usize::BITS {
         let mut octets = Vec::new(alloc);
@@ -25,16 +30,31 @@ fn word<E: Env>(alloc: Global, env: &E, number: usize) -> Result<Option<Vec<u8>>
     Err(AllocError)
 }
 
-/// The arguments after the program's name, as octets: they need not be UTF-8. Takes memory for them.
+/// What is asked for in the place of `help` and the word behind it, if there is one: that word's help.
+fn help_on(alloc: Global, words: &[Vec<u8>]) -> Result<Vec<Vec<u8>>, AllocError> {
+    let mut asked = Vec::new(alloc);
+    match words.get(1) {
+        Some(word) if !is_help(word.as_slice()) => asked.push(word.clone()?)?,
+        _ => {}
+    }
+    asked.push(Vec::from_slice(alloc, b"--help")?)?;
+    Ok(asked)
+}
+
+/// The arguments after the program's name, as octets: they need not be UTF-8. `help` and a word stand for that word and
+/// `--help`. Takes memory for them.
 pub(crate) fn words<E: Env>(alloc: Global, env: &E) -> Result<Vec<Vec<u8>>, AllocError> {
     let mut words = Vec::new(alloc);
     for number in 1..usize::MAX {
         match word(alloc, env, number)? {
             Some(word) => words.push(word)?,
-            None => return Ok(words),
+            None => break,
         }
     }
-    Ok(words)
+    match words.first() {
+        Some(first) if is_help(first.as_slice()) => help_on(alloc, words.as_slice()),
+        _ => Ok(words),
+    }
 }
 
 /// The text of a file, or why it can't be read as text. A file whose name isn't UTF-8 can't.

@@ -1,10 +1,9 @@
-//! The program `pcef_capture`, which writes the packets of a capture as lines of a script, while it reads it.
+//! `pcef capture`, which writes the packets of a capture as lines of a script, while it reads it.
 //!
-//! `pcef_capture --ue ADDRESS [--workers N] [--batch N] [--pad] [--gtp] [--teid N] [--times FILE] FILE` writes a `take`
+//! `pcef capture --ue ADDRESS [--workers N] [--batch N] [--pad] [--gtp] [--teid N] [--times FILE] FILE` writes a `take`
 //! line for each packet from or to the session of the address, and a `flush` line after each batch and at the end.
 //! With `--sessions MAP` in the place of `--ue` it does so for each session of a map, with the session's name before
 //! each line. FILE `-` is standard input. The counts of frames are printed on standard error.
-#![tactic(auto)]
 
 mod counts;
 mod following;
@@ -16,26 +15,26 @@ mod sessions;
 mod stopped;
 mod taking;
 
-ghost use Rattle.std.specs.Prelude.{◌≡◌, []};
+ghost use Rattle.std.specs.Prelude.{◌≡◌, ◌≤◌, [], IfErr};
 
-use counts::Counts;
-use following::follow;
-use map::{MapFault, read_map};
+use crate::asked::{CAPTURE, Call};
+use crate::capture::counts::Counts;
+use crate::capture::following::follow;
+use crate::capture::map::{MapFault, read_map};
+use crate::capture::report::{Asked, report_counts, report_end, report_map, report_read};
+use crate::capture::sessions::Sessions;
+use crate::capture::stopped::Stopped;
+use crate::capture::taking::{Output, Taking};
+use crate::command_line::{gather, refuse, refuse_usage, report_no_memory};
 use pcef_capture_file::CaptureFault;
 use pcef_capture_script::{
     Counts as ScriptCounts, End, Options, Packets, Plan, Request, Turn, Users, parse_options,
     write_capture,
 };
-use pcef_command_line::{gather, refuse, report_no_memory};
 use pcef_output::{Fused, Progress, Watched};
 use pcef_packet::Addr;
-use report::{Asked, report_counts, report_end, report_map, report_read};
-use sessions::Sessions;
 use std::fs::{self, File};
 use std::io::{self, BufWriter, Read, Write};
-use std::process::ExitCode;
-use stopped::Stopped;
-use taking::{Output, Taking};
 
 /// The end of the program up to the end of the capture, or its fault.
 fn end_at(fault: Option<CaptureFault>) -> Stopped {
@@ -209,7 +208,9 @@ fn taking_of(options: &Options<'_>, sessions: Sessions) -> Taking {
 }
 
 /// The work for one session, or the exit status where there is no memory.
-fn work_for_one<'a>(rt: &HostRuntime, options: &Options<'a>, ue: Addr) -> Result<Work<'a>, u8> {
+fn work_for_one<'a>(rt: &HostRuntime, options: &Options<'a>, ue: Addr) -> Result<Work<'a>, u8>
+    ensures { IfErr result (λ status. status ≤ 4) }
+{
     if options.times.is_none() && matches!(options.packets, Packets::OfFrames) {
         return Ok(Work::Script(Plan {
             ue,
@@ -226,7 +227,9 @@ fn work_for_one<'a>(rt: &HostRuntime, options: &Options<'a>, ue: Addr) -> Result
 }
 
 /// The work for the sessions of a map, or the exit status where the map is at fault.
-fn work_for_map<'a>(rt: &HostRuntime, options: &Options<'a>, path: &str) -> Result<Work<'a>, u8> {
+fn work_for_map<'a>(rt: &HostRuntime, options: &Options<'a>, path: &str) -> Result<Work<'a>, u8>
+    ensures { IfErr result (λ status. status ≤ 4) }
+{
     let octets = match fs::read(rt, path) {
         Ok(octets) => octets,
         Err(error) => return Err(report_read(rt, path, &error)),
@@ -239,12 +242,6 @@ fn work_for_map<'a>(rt: &HostRuntime, options: &Options<'a>, path: &str) -> Resu
     }
 }
 
-/// Reports what is wrong with the arguments, and returns the exit status.
-fn refuse_usage(rt: &HostRuntime, text: &str) -> u8 {
-    let _ = eprintln!(rt; "usage: {text}");
-    2
-}
-
 /// Whether the times would be written over what is read.
 fn overwrites(options: &Options<'_>) -> bool {
     let Some(times) = options.times else {
@@ -254,7 +251,9 @@ fn overwrites(options: &Options<'_>) -> bool {
 }
 
 /// Does what the options ask for, and returns the exit status.
-fn work_on(rt: &HostRuntime, options: &Options<'_>) -> u8 {
+fn work_on(rt: &HostRuntime, options: &Options<'_>) -> u8
+    ensures { result ≤ 4 }
+{
     if overwrites(options) {
         return refuse_usage(rt, "--times names a file that is read");
     }
@@ -273,7 +272,9 @@ fn work_on(rt: &HostRuntime, options: &Options<'_>) -> u8 {
 }
 
 /// Does what the words ask for, and returns the exit status.
-fn answer(rt: &HostRuntime, words: &[String]) -> u8 {
+fn work_for(rt: &HostRuntime, words: &[String]) -> u8
+    ensures { result ≤ 4 }
+{
     match parse_options(rt.alloc(), words) {
         Ok(Some(Request::Options(options))) => work_on(rt, &options),
         Ok(Some(Request::NoAddress(text))) => {
@@ -287,18 +288,16 @@ fn answer(rt: &HostRuntime, words: &[String]) -> u8 {
         }
         Ok(Some(Request::TwoUsers)) => refuse_usage(rt, "--ue and --sessions exclude each other"),
         Ok(None) => refuse_usage(rt, "an option has no value"),
-        Err(error) => refuse(rt, "pcef_capture", &error),
+        Err(error) => refuse(rt, CAPTURE, &error),
     }
 }
 
-/// Does what the arguments ask for, and returns the exit status.
-fn status(rt: &HostRuntime) -> u8 {
-    match gather(rt) {
-        Ok(words) => answer(rt, words.as_slice()),
+/// Does what the words of a call ask for, and returns the exit status.
+pub(crate) fn answer(rt: &HostRuntime, call: Call) -> u8
+    ensures { result ≤ 4 }
+{
+    match gather(rt, call) {
+        Ok(words) => work_for(rt, words.as_slice()),
         Err(status) => status,
     }
-}
-
-fn main(rt: HostRuntime) -> ExitCode {
-    ExitCode::from(status(&rt))
 }

@@ -1,9 +1,6 @@
-//! The program `pcef_check`, which reports the lines of a script that `pcef script` would answer by a fault or a
-//! refusal, and why.
+//! `pcef check`, which reports the lines of a script that `pcef script` would answer by a fault or a refusal, and why.
 //!
-//! `pcef_check PROFILE [LINES]` plays the lines on a session of the profile and its own, with the built-in catalog.
-#![tactic(auto)]
-
+//! `pcef check PROFILE [LINES]` plays the lines on a session of the profile and its own, with the built-in catalog.
 mod advice;
 mod end;
 mod options;
@@ -11,10 +8,15 @@ mod writing;
 
 ghost use Rattle.std.specs.Prelude.{◌≤◌};
 
-use end::End;
-use options::{Options, parse_options};
+use crate::asked::{CHECK, Call};
+use crate::check::end::End;
+use crate::check::options::{Options, parse_options};
+use crate::check::writing::write_findings;
+use crate::command_line::{
+    gather, or_no_memory, print_read_fault, print_write_fault, refuse, refuse_usage,
+    report_no_memory,
+};
 use pcef_built_in::ShapedCatalog;
-use pcef_command_line::{gather, refuse, report_no_memory};
 use pcef_explain::read_text;
 use pcef_findings::{FindFault, Finding, find};
 use pcef_model::Profile;
@@ -22,19 +24,9 @@ use pcef_output::Fused;
 use pcef_profile::{ReadProfileFault, explain, read_profile};
 use std::fs;
 use std::io::{self, BufWriter, ErrorKind, Read, Write};
-use std::process::ExitCode;
-use writing::write_findings;
 
 /// The most bytes of a script.
 const MAX_SCRIPT: usize = 1_073_741_824;
-
-/// The end of the program at an error of the system: `NoMemory` or this other one.
-fn end_of<'a>(error: io::Error, other: End<'a>) -> End<'a> {
-    match error.kind() {
-        ErrorKind::OutOfMemory => End::NoMemory,
-        _ => other,
-    }
-}
 
 /// The bytes of a file, or of standard input.
 fn read(rt: &HostRuntime, path: &str) -> io::Result<Vec<u8>> {
@@ -69,7 +61,7 @@ fn check_lines<'a>(
     let name = if file == "-" { "Standard input" } else { file };
     let input = match read(rt, file) {
         Ok(input) => input,
-        Err(error) => return end_of(error, End::Read(name, error)),
+        Err(error) => return or_no_memory(error, End::NoMemory, End::Read(name, error)),
     };
     if input.len() > MAX_SCRIPT {
         let message = "there are more than 1073741824 bytes";
@@ -82,7 +74,7 @@ fn check_lines<'a>(
     match write(rt, catalog, file, &input, &findings) {
         Ok(()) if findings.is_empty() => End::Clean,
         Ok(()) => End::Found,
-        Err(error) => end_of(error, End::Write(error)),
+        Err(error) => or_no_memory(error, End::NoMemory, End::Write(error)),
     }
 }
 
@@ -102,7 +94,7 @@ fn print_profile_fault(
 fn check<'a>(rt: &HostRuntime, catalog: &ShapedCatalog, options: Options<'a>) -> End<'a> {
     let text = match read_text(rt, options.profile) {
         Ok(text) => text,
-        Err(error) => return end_of(error, End::Read(options.profile, error)),
+        Err(error) => return or_no_memory(error, End::NoMemory, End::Read(options.profile, error)),
     };
     let profile = match read_profile(rt.alloc(), text.as_str()) {
         Ok(profile) => profile,
@@ -110,7 +102,7 @@ fn check<'a>(rt: &HostRuntime, catalog: &ShapedCatalog, options: Options<'a>) ->
         Err(fault) => {
             return match print_profile_fault(rt, options.profile, text.as_str(), fault) {
                 Ok(()) => End::Found,
-                Err(error) => end_of(error, End::Write(error)),
+                Err(error) => or_no_memory(error, End::NoMemory, End::Write(error)),
             };
         }
     };
@@ -129,39 +121,33 @@ fn report_end(rt: &HostRuntime, end: &End<'_>) -> u8
         End::NoMemory => {
             let _ = report_no_memory(rt);
         }
-        End::Read(file, error) => {
-            let _ = eprintln!(rt; "read fault\npcef_check: {file}: {error}");
-        }
-        // Nobody reads what was found any more.
-        End::Write(error) if error.kind() == ErrorKind::BrokenPipe => {}
-        End::Write(error) => {
-            let _ = eprintln!(rt; "write fault\npcef_check: standard output: {error}");
-        }
+        End::Read(file, error) => print_read_fault(rt, CHECK, file, error),
+        End::Write(error) => print_write_fault(rt, CHECK, "standard output", error),
     }
     end.status()
 }
 
-/// Does what the arguments ask for, and returns the exit status.
-fn status_with(rt: &HostRuntime, catalog: &ShapedCatalog) -> u8
+/// Does what the words ask for, and returns the exit status.
+fn status_with(rt: &HostRuntime, catalog: &ShapedCatalog, call: Call) -> u8
     ensures { result ≤ 4 }
 {
-    let words = match gather(rt) {
+    let words = match gather(rt, call) {
         Ok(words) => words,
         Err(status) => return status,
     };
     match parse_options(rt.alloc(), words.as_slice()) {
         Ok(Some(options)) => report_end(rt, &check(rt, catalog, options)),
-        Ok(None) => {
-            let _ = eprintln!(rt; "usage: an option has no value");
-            2
-        }
-        Err(error) => refuse(rt, "pcef_check", &error),
+        Ok(None) => refuse_usage(rt, "an option has no value"),
+        Err(error) => refuse(rt, CHECK, &error),
     }
 }
 
-fn main(rt: HostRuntime) -> ExitCode {
-    ExitCode::from(match ShapedCatalog::built_in(rt.alloc()) {
-        Ok(catalog) => status_with(&rt, &catalog),
-        Err(_) => report_no_memory(&rt),
-    })
+/// Does what the words of a call ask for, and returns the exit status.
+pub(crate) fn answer(rt: &HostRuntime, call: Call) -> u8
+    ensures { result ≤ 4 }
+{
+    match ShapedCatalog::built_in(rt.alloc()) {
+        Ok(catalog) => status_with(rt, &catalog, call),
+        Err(_) => report_no_memory(rt),
+    }
 }

@@ -1,12 +1,12 @@
-//! What a program over clap does before its work: it gathers its words, and reports why they ask for none.
+//! What the words over clap share: how each gathers what stands behind it, why no work is done, and what is printed of a
+//! file at fault.
 //!
-//! Its contracts say: the exit status that goes with each reason.
-//!
-//! In the order of reading: `words`, `refusing`.
-#![tactic(auto)]
+//! In the order of reading: `words`, `refusing`, `faults`.
 
+mod faults;
 mod refusing;
 mod words;
 
-pub use refusing::{refuse, report_no_memory};
-pub use words::gather;
+pub(crate) use faults::{or_no_memory, print_profile_fault, print_read_fault, print_write_fault};
+pub(crate) use refusing::{refuse, refuse_usage, report_no_memory};
+pub(crate) use words::gather;

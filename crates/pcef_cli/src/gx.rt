@@ -1,9 +1,8 @@
-//! The program `pcef_gx_filter`, which speaks of sessions with their PCRF.
+//! `pcef gx`, which speaks of sessions with their PCRF.
 //!
-//! `pcef_gx_filter --session-id TEXT --origin-host HOST --origin-realm REALM --destination-realm REALM PROFILE` reads
+//! `pcef gx --session-id TEXT --origin-host HOST --origin-realm REALM --destination-realm REALM PROFILE` reads
 //! Diameter messages from standard input, and writes its own on standard output: those of a node that opens a connection
 //! (RFC 6733), and those of a PCEF (TS 29.212). A session has a profile, and opens when the PCRF has granted it.
-#![tactic(auto)]
 
 mod end;
 mod lines;
@@ -18,19 +17,19 @@ mod serving;
 
 ghost use Rattle.std.specs.Prelude.{◌≤◌};
 
-use end::{End, Stop};
-use link::Link;
-use members::Members;
-use opening::members_of;
-use options::{Options, Sessions, parse_options};
-use pcef_command_line::{gather, refuse};
+use crate::asked::{Call, GX};
+use crate::command_line::{gather, or_no_memory, refuse, refuse_usage};
+use crate::gx::end::{End, Stop};
+use crate::gx::link::Link;
+use crate::gx::members::Members;
+use crate::gx::opening::members_of;
+use crate::gx::options::{Options, Sessions, parse_options};
+use crate::gx::serving::{Feed, numbering_of, serve};
 use pcef_gx_peer::Node;
 use pcef_output::Fused;
 use pcef_packet::Addr;
-use serving::{Feed, numbering_of, serve};
 use std::fs;
-use std::io::{BufWriter, ErrorKind};
-use std::process::ExitCode;
+use std::io::BufWriter;
 use std::sync::Wait;
 use std::thread::Threads;
 
@@ -85,10 +84,9 @@ fn run<'a, T: Threads + Wait + Drop + Send + Sync + Copy + 'static>(
     if let Some(path) = options.packets {
         match fs::metadata(&rt, path) {
             Ok(_) => {}
-            Err(error) if error.kind() == ErrorKind::OutOfMemory => {
-                return End::Stopped(Stop::NoMemory);
+            Err(error) => {
+                return or_no_memory(error, End::Stopped(Stop::NoMemory), End::Read(path, error));
             }
-            Err(error) => return End::Read(path, error),
         }
     }
     match members_of(&rt, options) {
@@ -97,27 +95,21 @@ fn run<'a, T: Threads + Wait + Drop + Send + Sync + Copy + 'static>(
     }
 }
 
-/// Does what the arguments ask for, and returns the exit status.
-fn status_with<T: Threads + Wait + Drop + Send + Sync + Copy + 'static>(
+/// Does what the words of a call ask for, and returns the exit status.
+pub(crate) fn answer<T: Threads + Wait + Drop + Send + Sync + Copy + 'static>(
     starting: T,
     rt: HostRuntime,
+    call: Call,
 ) -> u8
     ensures { result ≤ 4 }
 {
-    let words = match gather(&rt) {
+    let words = match gather(&rt, call) {
         Ok(words) => words,
         Err(status) => return status,
     };
     match parse_options(rt.alloc(), words.as_slice()) {
         Ok(Some(options)) => run(starting, rt, options).report(&rt),
-        Ok(None) => {
-            let _ = eprintln!(rt; "usage: an option has no value");
-            2
-        }
-        Err(error) => refuse(&rt, "pcef_gx_filter", &error),
+        Ok(None) => refuse_usage(&rt, "an option has no value"),
+        Err(error) => refuse(&rt, GX, &error),
     }
-}
-
-fn main(rt: HostRuntime) -> ExitCode {
-    ExitCode::from(status_with(rt, rt))
 }

@@ -1,47 +1,22 @@
-//! The program `pcef_report`, which shows what a script and its answers say of a session, as a page, as CSV or as
-//! metrics.
+//! `pcef page`, which shows what a script and its answers say of a session, as a page, as CSV or as metrics.
 //!
-//! `pcef_report [--format FORMAT] [--times FILE] [--profile FILE] [--session NAME] LINES ANSWERS` writes a page of HTML
-//! in one file, a record of CSV for each packet with a verdict, OpenMetrics text, or the text format of Prometheus.
-#![tactic(auto)]
+//! `pcef page [--format FORMAT] [--times FILE] [--profile FILE] [--session NAME] LINES ANSWERS` writes a page of HTML in
+//! one file, a record of CSV for each packet with a verdict, OpenMetrics text, or the text format of Prometheus.
 
-mod axis;
-mod chart;
 mod end;
-mod escape;
-mod input;
-mod keys;
-mod metrics;
-mod names;
 mod options;
-mod page;
-mod rates;
-mod refusals;
-mod rules;
-mod session;
-mod session_times;
-mod sheet;
-mod source;
-mod stamps;
-mod style;
-mod table;
-mod ticks;
-mod verdicts;
-mod volume;
 
 ghost use Rattle.std.specs.Prelude.{◌≤◌};
 
-use end::End;
-use input::{Input, read};
-use metrics::{Labeled, metrics_text};
-use options::{Format, Options, parse_options};
-use page::{Subject, html_page};
-use pcef_command_line::{gather, refuse};
-use pcef_figures::Stamp;
+use crate::asked::{Call, PAGE};
+use crate::command_line::{gather, or_no_memory, refuse, refuse_usage};
+use crate::page::end::End;
+use crate::page::options::{Format, Options, parse_options};
 use pcef_output::Fused;
-use std::io::{self, BufWriter, ErrorKind, Write};
-use std::process::ExitCode;
-use table::write_table;
+use pcef_page::{
+    Fault, Input, Labeled, Stamp, Subject, html_page, metrics_text, read, write_table,
+};
+use std::io::{self, BufWriter, Write};
 
 /// The times of the packets, none where no file of them is given.
 fn stamps_of(input: &Input) -> &[Stamp] {
@@ -55,13 +30,7 @@ fn stamps_of(input: &Input) -> &[Stamp] {
 fn write_csv(rt: &HostRuntime, input: &Input) -> io::Result<()> {
     let writer = BufWriter::new(rt.alloc(), Fused::new(io::writer(rt)))?;
     let stamps = input.stamps.as_ref().map(|_| stamps_of(input));
-    match write_table(rt.alloc(), writer, &input.figures, stamps) {
-        Ok(()) => Ok(()),
-        Err(error) => Err(match error.into_kind() {
-            csv::ErrorKind::Io(error) => error,
-            _ => ErrorKind::OutOfMemory.into(),
-        }),
-    }
+    write_table(rt.alloc(), writer, &input.figures, stamps)
 }
 
 /// Writes a text.
@@ -75,10 +44,10 @@ fn write_text(rt: &HostRuntime, text: &str) -> io::Result<()> {
 fn write_page(rt: &HostRuntime, options: Options<'_>, input: &Input) -> io::Result<()> {
     let subject = Subject {
         address: input.address.as_deref(),
-        profile: options.profile,
-        session: options.session,
-        lines: options.lines,
-        answers: options.answers,
+        profile: options.sources.profile,
+        session: options.sources.session,
+        lines: options.sources.lines,
+        answers: options.sources.answers,
         stamps: stamps_of(input),
     };
     write_text(rt, html_page(rt.alloc(), &input.figures, subject)?.as_str())
@@ -87,7 +56,7 @@ fn write_page(rt: &HostRuntime, options: Options<'_>, input: &Input) -> io::Resu
 /// Writes the metrics.
 fn write_metrics(rt: &HostRuntime, options: Options<'_>, input: &Input) -> io::Result<()> {
     let labeled = Labeled {
-        session: options.session,
+        session: options.sources.session,
         is_open: options.format == Format::OpenMetrics,
         last_packet: stamps_of(input).iter().map(|stamp| stamp.nanoseconds).max(),
     };
@@ -107,37 +76,33 @@ fn write(rt: &HostRuntime, options: Options<'_>, input: &Input) -> io::Result<()
 }
 
 /// Shows what the files say.
-fn report<'a>(rt: &HostRuntime, options: Options<'a>) -> End<'a> {
-    let input = match read(rt, options) {
+fn show<'a>(rt: &HostRuntime, options: Options<'a>) -> End<'a> {
+    let input = match read(rt, options.sources) {
         Ok(input) => input,
-        Err(end) => return end,
+        Err(fault) => return End::Unread(fault),
     };
     match write(rt, options, &input) {
         Ok(()) => End::Done,
-        Err(error) => End::of_error(error, End::Write(error)),
+        Err(error) => or_no_memory(error, End::Unread(Fault::NoMemory), End::Write(error)),
     }
 }
 
-/// Does what the arguments ask for, and returns the exit status.
-fn status(rt: &HostRuntime) -> u8
+/// Does what the words of a call ask for, and returns the exit status.
+pub(crate) fn answer(rt: &HostRuntime, call: Call) -> u8
     ensures { result ≤ 4 }
 {
-    let words = match gather(rt) {
+    let words = match gather(rt, call) {
         Ok(words) => words,
         Err(status) => return status,
     };
     match parse_options(rt.alloc(), words.as_slice()) {
-        Ok(Some(options)) => report(rt, options).report(rt),
+        Ok(Some(options)) => show(rt, options).report(rt),
         Ok(None) => {
-            let _ = eprintln!(rt;
-                "usage: --format: html, csv, openmetrics or prometheus is expected"
-            );
-            2
+            refuse_usage(
+                rt,
+                "--format: html, csv, openmetrics or prometheus is expected",
+            )
         }
-        Err(error) => refuse(rt, "pcef_report", &error),
+        Err(error) => refuse(rt, PAGE, &error),
     }
-}
-
-fn main(rt: HostRuntime) -> ExitCode {
-    ExitCode::from(status(&rt))
 }

@@ -7,15 +7,15 @@ use Rattle.std.proofs.lemmas.List.{flat_map_more}
 use Rattle.std.proofs.lemmas.List.Elements.{All-push}
 use Rattle.std.proofs.lemmas.Str.{IsUtf8-from_is_utf8, is_utf8-from_IsUtf8}
 use Rattle.serde_json.specs.Read.{read}
-use Rattle.pcef_figures.specs.declared.collecting.Collected.{Collected}
-use Rattle.pcef_figures.specs.declared.figures.Rates.{Rates}
+use Rattle.pcef_page.specs.declared.collecting.Collected.{Collected}
+use Rattle.pcef_page.specs.declared.figures.Rates.{Rates}
 use Rattle.std.proofs.Common.{append_assoc}
-use Rattle.pcef_figures.specs.Collecting.{AreFiguresOf, generation_from, keys_from, last_from, rates_from, rules_from}
-use Rattle.pcef_figures.specs.Grants.{KeyFigure, generation_behind, grants_in, keys_behind}
-use Rattle.pcef_figures.specs.Guarantees.{RuleFigure, rates_in, rules_behind}
-use Rattle.pcef_figures.specs.Pairing.{Exchange, json_of, exchange_of, is_answered}
-use Rattle.pcef_figures.specs.Usages.{refusals_in, usage_in}
-use Rattle.pcef_figures.specs.private.Steps.{AddsExchange}
+use Rattle.pcef_page.specs.Collecting.{AreFiguresOf, generation_from, keys_from, last_from, rates_from, rules_from}
+use Rattle.pcef_page.specs.Grants.{KeyFigure, generation_behind, grants_in, keys_behind}
+use Rattle.pcef_page.specs.Guarantees.{RuleFigure, rates_in, rules_behind}
+use Rattle.pcef_page.specs.Pairing.{Exchange, json_of, exchange_of, is_answered}
+use Rattle.pcef_page.specs.Usages.{refusals_in, usage_in}
+use Rattle.pcef_page.specs.private.Steps.{AddsExchange}
 
 -- ---- JSON
 pub data_read : (octets : List ℕ) → IsUtf8 octets → json_of octets ≡ read octets

@@ -8,8 +8,8 @@ use Rattle.std.proofs.lemmas.List.Elements.{All-from_get_or}
 use Rattle.std.proofs.lemmas.List.Splits.{slice_split_at, slice_split_none}
 use Rattle.std.proofs.Math.Seq.{drop-cons}
 use Rattle.memchr.specs.Find.{IsFirstByte, Nowhere, Passes, is_byte}
-use Rattle.pcef_figures.specs.Pairing.{filled_from, is_unanswered, split_lines}
-use Rattle.pcef_figures.specs.private.Lines.{IsFirstLine}
+use Rattle.pcef_page.specs.Pairing.{filled_from, is_unanswered, split_lines}
+use Rattle.pcef_page.specs.private.Lines.{IsFirstLine}
 
 none_before : (octets : List ℕ) (place : ℕ) → place ≤ length octets → Nowhere (Passes (is_byte 10) octets) 0 place
     → All (λ b. (b == 10) ≡ false) (take place octets)

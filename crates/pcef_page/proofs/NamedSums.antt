@@ -5,7 +5,7 @@ use Rattle.std.specs.BTreeMap.{get_by}
 use Rattle.std.specs.Cmp.Lexicographic.{bytes_decides, slice_cmp}
 use Rattle.std.specs.Ordering.{nat_cmp}
 use Rattle.std.specs.Str.{bytes_eq}
-use Rattle.pcef_figures.specs.Sums.{IsSum, or_nought, sum_in}
+use Rattle.pcef_page.specs.Sums.{IsSum, or_nought, sum_in}
 
 more_by : (new old : BTreeMap (Bor (List ℕ)) (Option ℕ)) (name key : List ℕ) (octets n : ℕ) (sum : Option ℕ) (same : Bool) → bytes_eq name key ≡ same
     → ((m : ℕ) → IsSum m (sum_in old name) → IsSum (m + octets) sum)

@@ -5,9 +5,9 @@ use Rattle.std.specs.List.{flat_map}
 use Rattle.std.proofs.Math.Seq.{take-suc}
 use Rattle.std.proofs.lemmas.Bool.{cases_lt}
 use Rattle.std.proofs.lemmas.List.{flat_map_more, get_or-set_other, get_or-set_same}
-use Rattle.pcef_figures.specs.Guarantees.{RuleFigure}
-use Rattle.pcef_figures.specs.private.Rules.{rule_of}
-use Rattle.pcef_figures.specs.declared.rates.Active.{Active}
+use Rattle.pcef_page.specs.Guarantees.{RuleFigure}
+use Rattle.pcef_page.specs.private.Rules.{rule_of}
+use Rattle.pcef_page.specs.declared.rates.Active.{Active}
 
 -- what is kept of a list of rules is what is kept of the rules
 chosen_map : (a : Active) (rules : List Active) (kept : List RuleFigure) (b : Bool) → map rule_of rules ≡ kept

@@ -6,7 +6,7 @@ use Rattle.std.proofs.lemmas.List.{drop_all, take_all}
 use Rattle.std.proofs.lemmas.List.Sums.{position_or_len_is}
 use Rattle.std.proofs.Math.Seq.{drop-cons}
 use Rattle.memchr.specs.Find.{IsFirstByte, is_byte}
-use Rattle.pcef_figures.specs.Times.{space_in}
+use Rattle.pcef_page.specs.Times.{space_in}
 
 none_is : (line : List ℕ) → IsFirstByte (is_byte 32) line None → space_in line ≡ length line
 none_is line none =

@@ -2,9 +2,9 @@
 use Rattle.std.proofs.Common.{rules, ◌≡◌, ◌∙◌, ℕ, List, [], ◌∷◌, ◌++◌, Option, Some, None, MatchOption, filter, length, append-nil, refl, ap, subst, arith}
 use Rattle.std.specs.Prelude.{◌≢◌}
 use Rattle.std.specs.List.{zip}
-use Rattle.pcef_figures.specs.declared.figures.Stamp.{Stamp}
-use Rattle.pcef_figures.specs.Times.{has_packet, stamp_of_pair}
-use Rattle.pcef_figures.proofs.Exchanges.{zip_nothing}
+use Rattle.pcef_page.specs.declared.figures.Stamp.{Stamp}
+use Rattle.pcef_page.specs.Times.{has_packet, stamp_of_pair}
+use Rattle.pcef_page.proofs.Exchanges.{zip_nothing}
 
 zip_append : (takes times later_takes later_times : List (ℕ × List ℕ)) → length takes ≡ length times
     → zip (takes ++ later_takes) (times ++ later_times) ≡ zip takes times ++ zip later_takes later_times

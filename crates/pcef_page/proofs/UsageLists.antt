@@ -4,8 +4,8 @@ use Rattle.std.specs.Prelude.{map}
 use Rattle.std.specs.List.{flat_map}
 use Rattle.serde_json.specs.Data.{Data}
 use Rattle.serde_json.specs.View.{items_of}
-use Rattle.pcef_figures.specs.Grants.{key_in, keys_in_all}
-use Rattle.pcef_figures.specs.Usages.{usage_of_report, usages_of_all}
+use Rattle.pcef_page.specs.Grants.{key_in, keys_in_all}
+use Rattle.pcef_page.specs.Usages.{usage_of_report, usages_of_all}
 
 pub told_flat : (number : ℕ) (reports : List Data) → usages_of_all number (items_of reports) ≡ flat_map (usage_of_report number) reports
 told_flat number [] = refl

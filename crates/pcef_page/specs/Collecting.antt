@@ -2,14 +2,14 @@
 use Rattle.std.specs.Prelude.{ℕ, ◌≡◌, ◌<◌, true, false, List, [], ◌∷◌, ◌++◌, length, map, is_some, Option, None}
 use Rattle.std.specs.List.{All, flat_map}
 use Rattle.serde_json.specs.Data.{Data}
-use Rattle.pcef_figures.specs.declared.collecting.CollectFault.{CollectFault}
-use Rattle.pcef_figures.specs.declared.collecting.CollectFault.TheVariants as fault
-use Rattle.pcef_figures.specs.declared.figures.Figures.{Figures}
-use Rattle.pcef_figures.specs.declared.figures.Rates.{Rates}
-use Rattle.pcef_figures.specs.Grants.{GrantFigure, KeyFigure, generation_behind, grant_of, grants_in, key_of, keys_behind}
-use Rattle.pcef_figures.specs.Guarantees.{RuleFigure, rates_in, rules_behind}
-use Rattle.pcef_figures.specs.Pairing.{Exchange, exchanges, filled, is_answered, has_value}
-use Rattle.pcef_figures.specs.Usages.{UsageFigure, RefusalFigure, refusal_shown, refusal_of, refusals_in, usage_figure_of, usage_in}
+use Rattle.pcef_page.specs.declared.collecting.CollectFault.{CollectFault}
+use Rattle.pcef_page.specs.declared.collecting.CollectFault.TheVariants as fault
+use Rattle.pcef_page.specs.declared.figures.Figures.{Figures}
+use Rattle.pcef_page.specs.declared.figures.Rates.{Rates}
+use Rattle.pcef_page.specs.Grants.{GrantFigure, KeyFigure, generation_behind, grant_of, grants_in, key_of, keys_behind}
+use Rattle.pcef_page.specs.Guarantees.{RuleFigure, rates_in, rules_behind}
+use Rattle.pcef_page.specs.Pairing.{Exchange, exchanges, filled, is_answered, has_value}
+use Rattle.pcef_page.specs.Usages.{UsageFigure, RefusalFigure, refusal_shown, refusal_of, refusals_in, usage_figure_of, usage_in}
 
 -- the number of the last line of these, or else this one
 abbrev pub last_from : ℕ → List Exchange → ℕ

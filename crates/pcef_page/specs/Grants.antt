@@ -3,9 +3,9 @@ use Rattle.std.specs.Prelude.{ℕ, Bool, false, List, [], ◌∷◌, Option, Som
 use Rattle.std.specs.Str.{bytes_eq}
 use Rattle.serde_json.specs.Data.{Data, Items, item, no_items}
 use Rattle.serde_json.specs.Find.{as_bool, get}
-use Rattle.pcef_figures.specs.declared.figures.Grant.{Grant}
-use Rattle.pcef_figures.specs.declared.figures.KeyState.{KeyState}
-use Rattle.pcef_figures.specs.Usages.{RefusalFigure, items_in, member_number, or_empty, refusal_shown, text_in}
+use Rattle.pcef_page.specs.declared.figures.Grant.{Grant}
+use Rattle.pcef_page.specs.declared.figures.KeyState.{KeyState}
+use Rattle.pcef_page.specs.Usages.{RefusalFigure, items_in, member_number, or_empty, refusal_shown, text_in}
 
 -- ---- members of objects
 abbrev pub or_zero : Option ℕ → ℕ

@@ -4,9 +4,9 @@ use Rattle.std.specs.List.{flat_map, sum_by}
 use Rattle.std.specs.Str.{bytes_eq}
 use Rattle.serde_json.specs.Data.{Data}
 use Rattle.serde_json.specs.Find.{get}
-use Rattle.pcef_figures.specs.declared.figures.Rates.{Rates}
-use Rattle.pcef_figures.specs.Grants.{asks, or_zero}
-use Rattle.pcef_figures.specs.Usages.{RefusalFigure, member_number, or_empty, refusal_shown, text_in}
+use Rattle.pcef_page.specs.declared.figures.Rates.{Rates}
+use Rattle.pcef_page.specs.Grants.{asks, or_zero}
+use Rattle.pcef_page.specs.Usages.{RefusalFigure, member_number, or_empty, refusal_shown, text_in}
 
 -- ---- the active rules
 -- a rule that is active

@@ -1,6 +1,8 @@
 pub mod Collecting
+pub mod Escaping
 pub mod Grants
 pub mod Guarantees
+pub mod Labels
 pub mod Pairing
 pub mod Sums
 pub mod Times

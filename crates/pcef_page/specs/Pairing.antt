@@ -5,7 +5,7 @@ use Rattle.std.specs.Str.{is_utf8}
 use Rattle.serde_json.specs.Data.{Data, null}
 use Rattle.serde_json.specs.Find.{as_object, get}
 use Rattle.serde_json.specs.Read.{read}
-use Rattle.pcef_figures.specs.Usages.{refusal_shown}
+use Rattle.pcef_page.specs.Usages.{refusal_shown}
 
 -- ---- lines
 -- the most octets of a line that may be blank

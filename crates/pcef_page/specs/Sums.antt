@@ -6,13 +6,13 @@ use Rattle.std.specs.Cmp.Lexicographic.{slice_cmp}
 use Rattle.std.specs.Ordering.{nat_cmp}
 use Rattle.std.specs.List.{sum_by}
 use Rattle.std.specs.Str.{bytes_eq}
-use Rattle.pcef_figures.specs.declared.figures.Judged.{Judged}
-use Rattle.pcef_figures.specs.declared.figures.Usage.{Usage}
-use Rattle.pcef_figures.specs.declared.figures.Verdict.{Verdict}
-use Rattle.pcef_figures.specs.declared.figures.Verdict.TheVariants.{Passed, Gated, Unmatched, Stray}
-use Rattle.pcef_figures.specs.declared.sums.Count.{Count}
-use Rattle.pcef_figures.specs.declared.sums.Count.TheVariants.{PacketsUp, PacketsDown, OctetsUp, OctetsDown, Octets}
-use Rattle.pcef_figures.specs.declared.sums.Count.TheVariants as count
+use Rattle.pcef_page.specs.declared.figures.Judged.{Judged}
+use Rattle.pcef_page.specs.declared.figures.Usage.{Usage}
+use Rattle.pcef_page.specs.declared.figures.Verdict.{Verdict}
+use Rattle.pcef_page.specs.declared.figures.Verdict.TheVariants.{Passed, Gated, Unmatched, Stray}
+use Rattle.pcef_page.specs.declared.sums.Count.{Count}
+use Rattle.pcef_page.specs.declared.sums.Count.TheVariants.{PacketsUp, PacketsDown, OctetsUp, OctetsDown, Octets}
+use Rattle.pcef_page.specs.declared.sums.Count.TheVariants as count
 
 -- ---- sums by name
 -- a name that has no sum has 0

@@ -5,11 +5,11 @@ use Rattle.std.specs.List.{All, position_or_len, zip}
 use Rattle.std.specs.Str.{all_ascii_digits}
 use Rattle.std.specs.Str.Parse.{digits_value}
 use Rattle.serde_json.specs.Data.{Data}
-use Rattle.pcef_figures.specs.declared.figures.Stamp.{Stamp}
-use Rattle.pcef_figures.specs.declared.times.TimesFault.{TimesFault}
-use Rattle.pcef_figures.specs.declared.times.TimesFault.TheVariants as fault
-use Rattle.pcef_figures.specs.Grants.{asks}
-use Rattle.pcef_figures.specs.Pairing.{json_of, filled}
+use Rattle.pcef_page.specs.declared.figures.Stamp.{Stamp}
+use Rattle.pcef_page.specs.declared.times.TimesFault.{TimesFault}
+use Rattle.pcef_page.specs.declared.times.TimesFault.TheVariants as fault
+use Rattle.pcef_page.specs.Grants.{asks}
+use Rattle.pcef_page.specs.Pairing.{json_of, filled}
 
 -- ---- a line of times
 unfoldable pub decimal_in : ℕ → List ℕ → Option ℕ

@@ -3,8 +3,8 @@ use Rattle.std.specs.Prelude.{ℕ, Bool, true, false, List, [], ◌∷◌, ◌++
 use Rattle.std.specs.Option.{option_to_list}
 use Rattle.serde_json.specs.Data.{Data, Items, item, no_items}
 use Rattle.serde_json.specs.Find.{as_array, as_number, as_str, as_u64, get}
-use Rattle.pcef_figures.specs.declared.figures.Refused.{Refused}
-use Rattle.pcef_figures.specs.declared.figures.Usage.{Usage}
+use Rattle.pcef_page.specs.declared.figures.Refused.{Refused}
+use Rattle.pcef_page.specs.declared.figures.Usage.{Usage}
 
 -- ---- members of objects
 abbrev pub text_in : List ℕ → Data → Option (List ℕ)

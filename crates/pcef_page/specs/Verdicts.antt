@@ -1,7 +1,7 @@
 -- The names of verdicts in answers (own choice).
 use Rattle.std.specs.Prelude.{ℕ, List, codes}
-use Rattle.pcef_figures.specs.declared.figures.Verdict.{Verdict}
-use Rattle.pcef_figures.specs.declared.figures.Verdict.TheVariants.{Passed, Gated, Unmatched, Stray}
+use Rattle.pcef_page.specs.declared.figures.Verdict.{Verdict}
+use Rattle.pcef_page.specs.declared.figures.Verdict.TheVariants.{Passed, Gated, Unmatched, Stray}
 
 abbrev pub verdict_name : Verdict → List ℕ
 verdict_name Passed = codes "Passed"

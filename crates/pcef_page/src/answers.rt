@@ -2,8 +2,8 @@
 
 ghost use Rattle.std.specs.Prelude.{◌≡◌, ◌++◌, IfOk, OnOk, codes, map, option_map};
 ghost use Rattle.serde_json.specs.View.{view};
-ghost use Rattle.pcef_figures.specs.Grants.{grant_asked, grant_of, key_in, key_of, keys_in_all};
-ghost use Rattle.pcef_figures.specs.Usages.{items_in, refusal_shown, refusal_of, usage_of_report, usage_figure_of, usage_in};
+ghost use Rattle.pcef_page.specs.Grants.{grant_asked, grant_of, key_in, key_of, keys_in_all};
+ghost use Rattle.pcef_page.specs.Usages.{items_in, refusal_shown, refusal_of, usage_of_report, usage_figure_of, usage_in};
 
 use crate::figures::{Grant, Handed, Judged, KeyState, Refused, Usage, Verdict};
 use crate::values::{asks, copy_of, count_at, flag_at, list_at, number_at, text_at};

@@ -4,7 +4,7 @@ use crate::chart::{WIDTH, scale};
 use crate::sheet::Sheet;
 use crate::stamps::last_up_to;
 use crate::ticks::{MOST_TICKS, push_seconds, push_tick, tick_distance};
-use pcef_figures::{Figures, Stamp};
+use crate::{Figures, Stamp};
 
 /// What goes along.
 #[derive(Clone, Copy, PartialEq, Eq)]

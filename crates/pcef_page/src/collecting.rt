@@ -2,12 +2,12 @@
 
 ghost use Rattle.std.specs.Prelude.{◌≡◌, ◌≤◌, ◌+◌, ◌-◌, ◌^◌, ◌++◌, [], IfErr, IfOk, IsOk, OnOk, codes, length, map, min, option_map, true};
 ghost use Rattle.serde_json.specs.View.{view};
-ghost use Rattle.pcef_figures.specs.Collecting.{Fails, IsExchangeFault, IsBlank, IsMismatch, AreFiguresOf};
-ghost use Rattle.pcef_figures.specs.Grants.{generation_behind, grant_of, grants_in, key_of, keys_behind};
-ghost use Rattle.pcef_figures.specs.Guarantees.{rates_commanded, rates_in, rules_behind, rules_commanded};
-ghost use Rattle.pcef_figures.specs.Pairing.{json_of, exchanges, filled, is_answer, has_value};
-ghost use Rattle.pcef_figures.specs.Usages.{member_number, refusal_of, refusals_in, usage_figure_of, usage_in};
-ghost use Rattle.pcef_figures.specs.private.Steps.{IsOtherOrMemory, AddsPackets, TakesDone, TakesLine, AddsExchange, exchange_by};
+ghost use Rattle.pcef_page.specs.Collecting.{Fails, IsExchangeFault, IsBlank, IsMismatch, AreFiguresOf};
+ghost use Rattle.pcef_page.specs.Grants.{generation_behind, grant_of, grants_in, key_of, keys_behind};
+ghost use Rattle.pcef_page.specs.Guarantees.{rates_commanded, rates_in, rules_behind, rules_commanded};
+ghost use Rattle.pcef_page.specs.Pairing.{json_of, exchanges, filled, is_answer, has_value};
+ghost use Rattle.pcef_page.specs.Usages.{member_number, refusal_of, refusals_in, usage_figure_of, usage_in};
+ghost use Rattle.pcef_page.specs.private.Steps.{IsOtherOrMemory, AddsPackets, TakesDone, TakesLine, AddsExchange, exchange_by};
 
 use crate::answers::{keys_in, push_grant, push_judged, push_usage, refused_in};
 use crate::figures::{Figures, Handed};
@@ -38,7 +38,7 @@ pub enum CollectFault {
 }
 
 impl From<AllocError> for CollectFault {
-    ghost use Rattle.pcef_figures.specs.declared.collecting.CollectFault.TheVariants.{NoMemory};
+    ghost use Rattle.pcef_page.specs.declared.collecting.CollectFault.TheVariants.{NoMemory};
 
     ghost from_gives = { λ _ fault. fault ≡ NoMemory };
 
@@ -48,7 +48,7 @@ impl From<AllocError> for CollectFault {
 }
 
 impl<T: Drop> From<AllocFailed<T>> for CollectFault {
-    ghost use Rattle.pcef_figures.specs.declared.collecting.CollectFault.TheVariants.{NoMemory};
+    ghost use Rattle.pcef_page.specs.declared.collecting.CollectFault.TheVariants.{NoMemory};
 
     ghost from_gives = { λ _ fault. fault ≡ NoMemory };
 

@@ -1,7 +1,7 @@
 //! Text in a page.
 
 ghost use Rattle.std.specs.Prelude.{◌≡◌, ◌++◌, ◌∷◌, [], MatchOption, OnOk, string_bytes};
-ghost use Rattle.pcef_report.specs.Escaping.{escaped, escaped_octet};
+ghost use Rattle.pcef_page.specs.Escaping.{escaped, escaped_octet};
 
 use std::alloc::AllocError;
 

@@ -1,8 +1,8 @@
 //! The figures of a session.
 
 ghost use Rattle.std.specs.Prelude.{◌≡◌, ◌≢◌, MatchOption};
-ghost use Rattle.pcef_figures.specs.Collecting.{IsBlank};
-ghost use Rattle.pcef_figures.specs.Verdicts.{verdict_name};
+ghost use Rattle.pcef_page.specs.Collecting.{IsBlank};
+ghost use Rattle.pcef_page.specs.Verdicts.{verdict_name};
 
 use std::alloc::Global;
 

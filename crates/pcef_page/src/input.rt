@@ -1,47 +1,25 @@
-//! What the program reads.
+//! What the files say.
 
-ghost use Rattle.std.specs.Prelude.{◌≡◌};
-
-use crate::end::End;
-use crate::options::Options;
+use crate::fault::Fault;
 use crate::session::{OneSession, one_session, own_text};
 use crate::session_times::SessionTimes;
 use crate::source::Collecting;
-use pcef_figures::{CollectFault, Figures, Stamp, TimesFault, collect, read_times};
-use std::alloc::{AllocError, AllocFailed, Global};
+use crate::sources::Sources;
+use crate::{CollectFault, Figures, Stamp, TimesFault, collect, read_times};
+use std::alloc::{AllocError, Global};
 use std::io::{self, Read};
 use std::{fs, str};
 use toml::Value;
 
 /// What the files say.
 #[derive(Drop)]
-pub(crate) struct Input {
+pub struct Input {
     /// The figures of the session.
     pub figures: Figures,
     /// The times of its packets, where they are given.
     pub stamps: Option<Vec<Stamp>>,
     /// Its address, where it is known.
     pub address: Option<String>,
-}
-
-impl From<AllocError> for End<'_> {
-    ghost use Rattle.pcef_report.specs.declared.end.End.TheVariants.{NoMemory};
-
-    ghost from_gives = { λ _ end. end ≡ NoMemory };
-
-    fn from(_refused: AllocError) -> Self {
-        End::NoMemory
-    }
-}
-
-impl<T: Drop> From<AllocFailed<T>> for End<'_> {
-    ghost use Rattle.pcef_report.specs.declared.end.End.TheVariants.{NoMemory};
-
-    ghost from_gives = { λ _ end. end ≡ NoMemory };
-
-    fn from(_refused: AllocFailed<T>) -> Self {
-        End::NoMemory
-    }
 }
 
 /// The octets of a file, or of standard input.
@@ -55,10 +33,10 @@ fn octets_in(rt: &HostRuntime, file: &str) -> io::Result<Vec<u8>> {
 }
 
 /// The octets of a file, or of standard input.
-fn octets_of<'a>(rt: &HostRuntime, file: &'a str) -> Result<Vec<u8>, End<'a>> {
+fn octets_of<'a>(rt: &HostRuntime, file: &'a str) -> Result<Vec<u8>, Fault<'a>> {
     match octets_in(rt, file) {
         Ok(octets) => Ok(octets),
-        Err(error) => Err(End::at_read(file, error)),
+        Err(error) => Err(Fault::at_read(file, error)),
     }
 }
 
@@ -78,17 +56,17 @@ fn hint_of(lines: &[u8], answers: &[u8]) -> &'static str {
 /// Collects the figures from lines and answers.
 fn collect_figures<'a>(
     rt: &HostRuntime,
-    options: Options<'a>,
+    sources: Sources<'a>,
     lines: &[u8],
     answers: &[u8],
-) -> Result<Figures, End<'a>> {
+) -> Result<Figures, Fault<'a>> {
     let mut watch = Collecting::new(rt, lines.len().saturating_add(answers.len()));
     let figures = collect(rt.alloc(), lines, answers, &mut watch);
     watch.end();
     match figures {
         Ok(figures) => Ok(figures),
-        Err(CollectFault::NoMemory) => Err(End::NoMemory),
-        Err(fault) => Err(End::Apart(options, fault, hint_of(lines, answers))),
+        Err(CollectFault::NoMemory) => Err(Fault::NoMemory),
+        Err(fault) => Err(Fault::Apart(sources, fault, hint_of(lines, answers))),
     }
 }
 
@@ -98,27 +76,27 @@ fn stamps_of<'a>(
     file: &'a str,
     lines: &[u8],
     times: &[u8],
-) -> Result<Vec<Stamp>, End<'a>> {
+) -> Result<Vec<Stamp>, Fault<'a>> {
     match read_times(alloc, lines, times) {
         Ok(stamps) => Ok(stamps),
-        Err(TimesFault::NoMemory) => Err(End::NoMemory),
-        Err(fault) => Err(End::Times(file, fault)),
+        Err(TimesFault::NoMemory) => Err(Fault::NoMemory),
+        Err(fault) => Err(Fault::Times(file, fault)),
     }
 }
 
 /// The lines of the session that is asked for, among those of many, with their answers.
 fn session_in<'a>(
     rt: &HostRuntime,
-    options: Options<'a>,
+    sources: Sources<'a>,
     name: &'a str,
     times: &mut SessionTimes<'a>,
-) -> Result<OneSession, End<'a>> {
-    let lines = own_text(rt, options.lines, name, times)?;
+) -> Result<OneSession, Fault<'a>> {
+    let lines = own_text(rt, sources.lines, name, times)?;
     let mut no_times = SessionTimes::open(rt, None);
-    let answers = own_text(rt, options.answers, name, &mut no_times)?;
+    let answers = own_text(rt, sources.answers, name, &mut no_times)?;
     match one_session(rt.alloc(), &lines, &answers)? {
         Some(session) => Ok(session),
-        None => Err(End::NoSession(name, options.lines)),
+        None => Err(Fault::NoSession(name, sources.lines)),
     }
 }
 
@@ -139,52 +117,55 @@ fn address_in(alloc: Global, octets: &[u8]) -> Result<Option<String>, AllocError
 }
 
 /// The address of the profile, where one is given.
-fn profile_address<'a>(rt: &HostRuntime, options: Options<'a>) -> Result<Option<String>, End<'a>> {
-    let Some(file) = options.profile else {
+fn profile_address<'a>(
+    rt: &HostRuntime,
+    sources: Sources<'a>,
+) -> Result<Option<String>, Fault<'a>> {
+    let Some(file) = sources.profile else {
         return Ok(None);
     };
     let octets = octets_of(rt, file)?;
     match address_in(rt.alloc(), &octets)? {
         Some(address) => Ok(Some(address)),
-        None => Err(End::Profile(file)),
+        None => Err(Fault::Profile(file)),
     }
 }
 
 /// Collects what the lines and answers of one session say.
 fn input_of<'a>(
     rt: &HostRuntime,
-    options: Options<'a>,
+    sources: Sources<'a>,
     lines: &[u8],
     answers: &[u8],
-) -> Result<Input, End<'a>> {
-    let figures = collect_figures(rt, options, lines, answers)?;
-    let stamps = match options.times {
+) -> Result<Input, Fault<'a>> {
+    let figures = collect_figures(rt, sources, lines, answers)?;
+    let stamps = match sources.times {
         Some(file) => Some(stamps_of(rt.alloc(), file, lines, &octets_of(rt, file)?)?),
         None => None,
     };
     Ok(Input {
         figures,
         stamps,
-        address: profile_address(rt, options)?,
+        address: profile_address(rt, sources)?,
     })
 }
 
 /// Collects what the lines and answers of a session among many say.
 fn input_of_session<'a>(
     rt: &HostRuntime,
-    options: Options<'a>,
+    sources: Sources<'a>,
     name: &'a str,
-) -> Result<Input, End<'a>> {
-    let mut times = SessionTimes::open(rt, options.times);
+) -> Result<Input, Fault<'a>> {
+    let mut times = SessionTimes::open(rt, sources.times);
     let OneSession {
         lines,
         answers,
         first,
         address,
-    } = session_in(rt, options, name, &mut times)?;
-    let figures = collect_figures(rt, options, &lines, &answers)?;
+    } = session_in(rt, sources, name, &mut times)?;
+    let figures = collect_figures(rt, sources, &lines, &answers)?;
     let stamps = times.stamps_from(first)?;
-    let profile = profile_address(rt, options)?;
+    let profile = profile_address(rt, sources)?;
     Ok(Input {
         figures,
         stamps,
@@ -197,25 +178,25 @@ fn input_of_session<'a>(
 }
 
 /// Whether more than one file is standard input.
-fn has_two_inputs(options: Options<'_>) -> bool {
+fn has_two_inputs(sources: Sources<'_>) -> bool {
     let files = [
-        Some(options.lines),
-        Some(options.answers),
-        options.times,
-        options.profile,
+        Some(sources.lines),
+        Some(sources.answers),
+        sources.times,
+        sources.profile,
     ];
     files.iter().filter(|file| **file == Some("-")).count() > 1
 }
 
 /// Reads the files, and collects what they say. Takes memory for it.
-pub(crate) fn read<'a>(rt: &HostRuntime, options: Options<'a>) -> Result<Input, End<'a>> {
-    if has_two_inputs(options) {
-        return Err(End::TwoInputs);
+pub fn read<'a>(rt: &HostRuntime, sources: Sources<'a>) -> Result<Input, Fault<'a>> {
+    if has_two_inputs(sources) {
+        return Err(Fault::TwoInputs);
     }
-    if let Some(name) = options.session {
-        return input_of_session(rt, options, name);
+    if let Some(name) = sources.session {
+        return input_of_session(rt, sources, name);
     }
-    let lines = octets_of(rt, options.lines)?;
-    let answers = octets_of(rt, options.answers)?;
-    input_of(rt, options, &lines, &answers)
+    let lines = octets_of(rt, sources.lines)?;
+    let answers = octets_of(rt, sources.answers)?;
+    input_of(rt, sources, &lines, &answers)
 }

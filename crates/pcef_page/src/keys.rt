@@ -5,7 +5,7 @@ use crate::chart::{Chart, MOST_SERIES, Trace, mark, series};
 use crate::names::ByName;
 use crate::rules::{MOST_ROWS, push_more, push_sum};
 use crate::sheet::Sheet;
-use pcef_figures::{Figures, KeyState, Sums, octets_by_key, sum_of};
+use crate::{Figures, KeyState, Sums, octets_by_key, sum_of};
 use std::alloc::{AllocError, Global};
 
 /// The front of the table of keys.

@@ -1,13 +1,13 @@
 //! Metrics: OpenMetrics text (version 1.0.0), or the text format of Prometheus (version 0.0.4).
 
 ghost use Rattle.std.specs.Prelude.{◌≡◌, ◌++◌, OnOk, string_bytes};
-ghost use Rattle.pcef_report.specs.Labels.{label_of};
+ghost use Rattle.pcef_page.specs.Labels.{label_of};
 
 use crate::keys::{Key, events_of, keys_of};
 use crate::names::ByName;
 use crate::sheet::Sheet;
 use crate::stamps::push_time;
-use pcef_figures::{Count, Figures, Rates, Sums, Verdict, octets_by_key, sum_of, sums_by_rule};
+use crate::{Count, Figures, Rates, Sums, Verdict, octets_by_key, sum_of, sums_by_rule};
 use std::alloc::{AllocError, Global};
 
 /// Adds the value of a label: a quotation mark, a backslash and a line feed are escaped, and other characters stand as
@@ -28,7 +28,7 @@ pub(crate) fn push_label(text: &mut String, value: &str) -> Result<(), AllocErro
 
 /// Whose metrics are written, and in which form.
 #[derive(Clone, Copy)]
-pub(crate) struct Labeled<'a> {
+pub struct Labeled<'a> {
     /// The session's name, which is a label of each sample.
     pub session: Option<&'a str>,
     /// Whether it is OpenMetrics, and not the text format of Prometheus.
@@ -393,7 +393,7 @@ fn push_metrics(
 }
 
 /// The figures as metrics. Takes memory for them.
-pub(crate) fn metrics_text(
+pub fn metrics_text(
     alloc: Global,
     figures: &Figures,
     labeled: Labeled<'_>,

@@ -2,7 +2,7 @@
 
 use crate::axis::{Axis, bounds};
 use crate::keys::push_keys;
-use crate::rates::push_rates;
+use crate::rate_chart::push_rates;
 use crate::refusals::push_refused;
 use crate::rules::push_rules;
 use crate::sheet::Sheet;
@@ -10,12 +10,12 @@ use crate::stamps::push_time;
 use crate::style::{FRONT, STYLE};
 use crate::verdicts::push_verdicts;
 use crate::volume::push_volume;
-use pcef_figures::{Figures, Stamp};
+use crate::{Figures, Stamp};
 use std::alloc::{AllocError, Global};
 
 /// Whose page it is.
 #[derive(Clone, Copy)]
-pub(crate) struct Subject<'a> {
+pub struct Subject<'a> {
     /// The address of the session, where it is known.
     pub address: Option<&'a str>,
     /// The path of its profile, where it was given.
@@ -128,7 +128,7 @@ fn push_page(
 
 /// A page of HTML that shows the figures: verdicts, rules, octets, monitoring keys, guaranteed rates, refusals. It has
 /// no script and names no other file. Takes memory for it.
-pub(crate) fn html_page(
+pub fn html_page(
     alloc: Global,
     figures: &Figures,
     subject: Subject<'_>,

@@ -2,8 +2,8 @@
 
 ghost use Rattle.std.specs.Prelude.{◌≡◌, ◌∷◌, ◌+◌, ◌<◌, ◌≤◌, [], MatchOption, option_map};
 ghost use Rattle.std.specs.List.{list_all};
-ghost use Rattle.pcef_figures.specs.Pairing.{filled, is_unanswered, is_padding};
-ghost use Rattle.pcef_figures.specs.private.Lines.{HasRoom, IsFirstLine, left, lines_left, size};
+ghost use Rattle.pcef_page.specs.Pairing.{filled, is_unanswered, is_padding};
+ghost use Rattle.pcef_page.specs.private.Lines.{HasRoom, IsFirstLine, left, lines_left, size};
 
 use memchr::memchr;
 

@@ -4,7 +4,7 @@ use crate::axis::Axis;
 use crate::chart::{Chart, Trace, mark, series};
 use crate::rules::{MOST_ROWS, push_more};
 use crate::sheet::Sheet;
-use pcef_figures::{Figures, Rates};
+use crate::{Figures, Rates};
 
 /// A direction of rates.
 #[derive(Clone, Copy, PartialEq, Eq)]

@@ -3,9 +3,9 @@
 ghost use Rattle.std.specs.Prelude.{◌≡◌, ℕ, List, [], ◌<◌, ◌++◌, ◌==◌, OnOk, IfOk, codes, not, option_map, slice_index, slice_index_or, string_bytes};
 ghost use Rattle.std.specs.Str.{bytes_eq};
 ghost use Rattle.serde_json.specs.View.{view};
-ghost use Rattle.pcef_figures.specs.Guarantees.{RuleFigure, with_activated, bearers, rate_change, rate_changes, down_of, with_rule, installed, without_rules_on, guaranteed_in, rates_commanded, rule_in, rules_by, rules_commanded, up_of, without_rule};
-ghost use Rattle.pcef_figures.specs.Usages.{member_number};
-ghost use Rattle.pcef_figures.specs.private.Rules.{rule_of};
+ghost use Rattle.pcef_page.specs.Guarantees.{RuleFigure, with_activated, bearers, rate_change, rate_changes, down_of, with_rule, installed, without_rules_on, guaranteed_in, rates_commanded, rule_in, rules_by, rules_commanded, up_of, without_rule};
+ghost use Rattle.pcef_page.specs.Usages.{member_number};
+ghost use Rattle.pcef_page.specs.private.Rules.{rule_of};
 
 use crate::figures::Rates;
 use crate::values::{asks, copy_of, count_at, number_at, text_at};
@@ -33,8 +33,8 @@ pub struct ActiveRules {
 
 impl Model for ActiveRules {
     ghost use Rattle.std.specs.Prelude.{List, map};
-    ghost use Rattle.pcef_figures.specs.Guarantees.{RuleFigure};
-    ghost use Rattle.pcef_figures.specs.private.Rules.{rule_of};
+    ghost use Rattle.pcef_page.specs.Guarantees.{RuleFigure};
+    ghost use Rattle.pcef_page.specs.private.Rules.{rule_of};
 
     ghost Value = { List RuleFigure };
 

@@ -3,7 +3,7 @@
 use crate::names::ByName;
 use crate::rules::{MOST_ROWS, push_more};
 use crate::sheet::Sheet;
-use pcef_figures::{Figures, Refused};
+use crate::{Figures, Refused};
 use std::alloc::{AllocError, Global};
 
 /// The front of the table.

@@ -2,7 +2,7 @@
 
 use crate::names::ByName;
 use crate::sheet::Sheet;
-use pcef_figures::{Count, Figures, Judged, Sums, sum_of, sums_by_rule};
+use crate::{Count, Figures, Judged, Sums, sum_of, sums_by_rule};
 use std::alloc::{AllocError, Global};
 
 /// The front of the table of rules.

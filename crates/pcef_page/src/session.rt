@@ -1,6 +1,6 @@
 //! One session among the lines of many.
 
-use crate::end::End;
+use crate::fault::Fault;
 use crate::session_times::SessionTimes;
 use crate::source::{FileLines, is_blank};
 use serde_json::Value;
@@ -28,17 +28,17 @@ pub(crate) fn own_text<'a>(
     file: &'a str,
     name: &str,
     times: &mut SessionTimes<'a>,
-) -> Result<Vec<u8>, End<'a>> {
+) -> Result<Vec<u8>, Fault<'a>> {
     let mut lines = match FileLines::open(rt, file) {
         Ok(lines) => lines,
-        Err(error) => return Err(End::at_read(file, error)),
+        Err(error) => return Err(Fault::at_read(file, error)),
     };
     let mut text = Vec::new(rt.alloc());
     for number in 1..u64::MAX {
         let line = match lines.next() {
             Ok(Some(line)) => line,
             Ok(None) => break,
-            Err(error) => return Err(End::at_read(file, error)),
+            Err(error) => return Err(Fault::at_read(file, error)),
         };
         let own = rest_of(line, name);
         times.take(rt, number, line, own.is_some());

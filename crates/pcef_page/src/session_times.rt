@@ -1,17 +1,17 @@
 //! The times of one session's packets among those of many.
 
-use crate::end::End;
+use crate::fault::Fault;
 use crate::source::FileLines;
-use pcef_figures::{Stamp, TimesFault, is_take, stamp_of};
+use crate::{Stamp, TimesFault, is_take, stamp_of};
 
 /// The times of the packets of a session, which are read beside the lines of all sessions.
 #[derive(Drop)]
 pub(crate) struct SessionTimes<'a> {
     file: &'a str,
-    /// What is left of the file, or none where no times are wanted or an end was met.
+    /// What is left of the file, or none where no times are wanted or a fault was met.
     left: Option<FileLines>,
     stamps: Vec<Stamp>,
-    end: Option<End<'a>>,
+    fault: Option<Fault<'a>>,
 }
 
 impl<'a> SessionTimes<'a> {
@@ -21,12 +21,12 @@ impl<'a> SessionTimes<'a> {
             file: file.unwrap_or(""),
             left: None,
             stamps: Vec::new(rt.alloc()),
-            end: None,
+            fault: None,
         };
         if let Some(file) = file {
             match FileLines::open(rt, file) {
                 Ok(left) => times.left = Some(left),
-                Err(error) => times.end = Some(End::at_read(file, error)),
+                Err(error) => times.fault = Some(Fault::at_read(file, error)),
             }
         }
         times
@@ -40,7 +40,7 @@ impl<'a> SessionTimes<'a> {
         number: u64,
         line: &[u8],
         is_own: bool,
-    ) -> Result<(), End<'a>> {
+    ) -> Result<(), Fault<'a>> {
         let Some(left) = &mut self.left else {
             return Ok(());
         };
@@ -52,22 +52,22 @@ impl<'a> SessionTimes<'a> {
         }
         let time = match left.next_filled() {
             Ok(Some(time)) => time,
-            Ok(None) => return Err(End::Times(self.file, TimesFault::NoTime(number))),
-            Err(error) => return Err(End::at_read(self.file, error)),
+            Ok(None) => return Err(Fault::Times(self.file, TimesFault::NoTime(number))),
+            Err(error) => return Err(Fault::at_read(self.file, error)),
         };
         match stamp_of(number, time.1) {
             Some(stamp) if is_own => self.stamps.push(stamp)?,
             Some(_) => {}
-            None => return Err(End::Times(self.file, TimesFault::BadTime(time.0))),
+            None => return Err(Fault::Times(self.file, TimesFault::BadTime(time.0))),
         }
         Ok(())
     }
 
     /// Takes the line of this number. Where its time is at fault, no more times are read.
     pub(crate) fn take(&mut self, rt: &HostRuntime, number: u64, line: &[u8], is_own: bool) {
-        if let Err(end) = self.read_time(rt, number, line, is_own) {
+        if let Err(fault) = self.read_time(rt, number, line, is_own) {
             self.left = None;
-            self.end = Some(end);
+            self.fault = Some(fault);
         }
     }
 
@@ -75,23 +75,23 @@ impl<'a> SessionTimes<'a> {
     /// were taken.
     ///
     /// An `Err` is the first fault of the times.
-    pub(crate) fn stamps_from(self, first: u64) -> Result<Option<Vec<Stamp>>, End<'a>> {
+    pub(crate) fn stamps_from(self, first: u64) -> Result<Option<Vec<Stamp>>, Fault<'a>> {
         let SessionTimes {
             file,
             left,
             mut stamps,
-            end,
+            fault,
         } = self;
-        if let Some(end) = end {
-            return Err(end);
+        if let Some(fault) = fault {
+            return Err(fault);
         }
         let Some(mut left) = left else {
             return Ok(None);
         };
         match left.next_filled() {
             Ok(None) => {}
-            Ok(Some((number, _))) => return Err(End::Times(file, TimesFault::MoreTimes(number))),
-            Err(error) => return Err(End::at_read(file, error)),
+            Ok(Some((number, _))) => return Err(Fault::Times(file, TimesFault::MoreTimes(number))),
+            Err(error) => return Err(Fault::at_read(file, error)),
         }
         stamps.retain(|stamp| stamp.line >= first);
         Ok(Some(stamps))

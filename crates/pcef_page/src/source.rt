@@ -1,6 +1,6 @@
 //! The files that are read.
 
-use pcef_figures::Watch;
+use crate::Watch;
 use pcef_output::{Progress, Watched};
 use std::fs::File;
 use std::io::{self, BufRead, BufReader, Read};

@@ -1,7 +1,7 @@
 //! The times of packets.
 
+use crate::Stamp;
 use crate::sheet::Sheet;
-use pcef_figures::Stamp;
 
 /// The last packet up to the line of this number, of packets in the order of their lines.
 pub(crate) fn last_up_to(stamps: &[Stamp], line: u64) -> Option<&Stamp> {

@@ -2,7 +2,7 @@
 
 ghost use Rattle.std.specs.Prelude.{◌≡◌, ℕ, List, ◌+◌, IfOk, OnOk, if◌then◌else◌};
 ghost use Rattle.std.specs.Str.{bytes_eq};
-ghost use Rattle.pcef_figures.specs.Sums.{IsSum, counted_for_rule, sum_in, usage_octets, weight};
+ghost use Rattle.pcef_page.specs.Sums.{IsSum, counted_for_rule, sum_in, usage_octets, weight};
 
 use crate::figures::{Judged, Usage, Verdict};
 use std::alloc::{AllocError, Global};

@@ -2,11 +2,11 @@
 
 use crate::sheet::Sheet;
 use crate::stamps::{push_time, stamp_at};
+use crate::{Figures, Judged, Stamp};
 use csv::{Error, Writer, WriterBuilder};
 use itoa::Buffer;
-use pcef_figures::{Figures, Judged, Stamp};
 use std::alloc::Global;
-use std::io::Write;
+use std::io::{self, ErrorKind, Write};
 
 const COLUMNS: &[&str] = &[
     "line",
@@ -104,14 +104,20 @@ fn write_records<W: Write + Drop>(
     writer.flush()
 }
 
-/// Writes a record for each packet with a verdict, behind one with the names of the columns. Takes memory for a time,
-/// before it writes.
-pub(crate) fn write_table<W: Write + Drop>(
+/// Writes a record for each packet with a verdict, behind one with the names of the columns, and flushes the writer.
+/// Takes memory for a time, before it writes.
+pub fn write_table<W: Write + Drop>(
     alloc: Global,
     writer: W,
     figures: &Figures,
     stamps: Option<&[Stamp]>,
-) -> Result<(), Error> {
+) -> io::Result<()> {
     let mut writer = WriterBuilder::new().from_writer(writer);
-    write_records(alloc, &mut writer, figures, stamps)
+    match write_records(alloc, &mut writer, figures, stamps) {
+        Ok(()) => Ok(()),
+        Err(error) => Err(match error.into_kind() {
+            csv::ErrorKind::Io(error) => error,
+            _ => ErrorKind::OutOfMemory.into(),
+        }),
+    }
 }

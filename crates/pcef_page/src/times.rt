@@ -1,9 +1,9 @@
 //! When the packets of a script were recorded.
 
 ghost use Rattle.std.specs.Prelude.{◌≡◌, ◌<◌, ◌≤◌, ◌+◌, ◌^◌, ◌∷◌, [], IfErr, IfOk, IfSome, MatchOption, Some, drop, filter, map, option_map, take};
-ghost use Rattle.pcef_figures.specs.Pairing.{json_of, filled};
-ghost use Rattle.pcef_figures.specs.Times.{FailsTimes, AreStampsOf, has_packet, is_take, decimal_in, space_in, stamp_in, time_in};
-ghost use Rattle.pcef_figures.specs.private.Lines.{HasRoom, left, size};
+ghost use Rattle.pcef_page.specs.Pairing.{json_of, filled};
+ghost use Rattle.pcef_page.specs.Times.{FailsTimes, AreStampsOf, has_packet, is_take, decimal_in, space_in, stamp_in, time_in};
+ghost use Rattle.pcef_page.specs.private.Lines.{HasRoom, left, size};
 
 use crate::collecting::value_of;
 use crate::figures::Stamp;
@@ -32,7 +32,7 @@ pub enum TimesFault {
 }
 
 impl From<AllocError> for TimesFault {
-    ghost use Rattle.pcef_figures.specs.declared.times.TimesFault.TheVariants.{NoMemory};
+    ghost use Rattle.pcef_page.specs.declared.times.TimesFault.TheVariants.{NoMemory};
 
     ghost from_gives = { λ _ fault. fault ≡ NoMemory };
 
@@ -42,7 +42,7 @@ impl From<AllocError> for TimesFault {
 }
 
 impl<T: Drop> From<AllocFailed<T>> for TimesFault {
-    ghost use Rattle.pcef_figures.specs.declared.times.TimesFault.TheVariants.{NoMemory};
+    ghost use Rattle.pcef_page.specs.declared.times.TimesFault.TheVariants.{NoMemory};
 
     ghost from_gives = { λ _ fault. fault ≡ NoMemory };
 

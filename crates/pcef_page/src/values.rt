@@ -2,8 +2,8 @@
 
 ghost use Rattle.std.specs.Prelude.{◌≡◌, IfOk, option_map, string_bytes};
 ghost use Rattle.serde_json.specs.View.{items_view, view};
-ghost use Rattle.pcef_figures.specs.Grants.{asks, flag_in, or_zero};
-ghost use Rattle.pcef_figures.specs.Usages.{items_in, member_number, or_empty, text_in};
+ghost use Rattle.pcef_page.specs.Grants.{asks, flag_in, or_zero};
+ghost use Rattle.pcef_page.specs.Usages.{items_in, member_number, or_empty, text_in};
 
 use serde_json::Value;
 use std::alloc::{AllocError, Global};

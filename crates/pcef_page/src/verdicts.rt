@@ -5,7 +5,7 @@ ghost use Rattle.std.specs.Prelude.{◌<◌};
 use crate::axis::Axis;
 use crate::chart::{Chart, WIDTH, mark};
 use crate::sheet::Sheet;
-use pcef_figures::{Figures, Judged, Verdict};
+use crate::{Figures, Judged, Verdict};
 
 /// How many bars the verdicts have.
 const BARS: usize = 60;

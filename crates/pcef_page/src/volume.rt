@@ -5,7 +5,7 @@ ghost use Rattle.std.specs.Prelude.{◌<◌};
 use crate::axis::Axis;
 use crate::chart::{Chart, Trace, WIDTH, mark};
 use crate::sheet::Sheet;
-use pcef_figures::{Figures, Judged};
+use crate::{Figures, Judged};
 
 /// The columns of the chart.
 const COLUMNS: usize = WIDTH as usize;

@@ -26,6 +26,12 @@ pub(crate) const USAGE_NOTE: &str = "
                        reads all lines of standard input, each the number of a session, from 0, a space and a
                        command; opens a session for each of 1 to 64 profiles on a pool of UP and DOWN guaranteed
                        bit/s, answers each command with a line, and prints what the pool has granted
+  check ..             names each line of a script that is answered by a fault or a refusal, and why
+  many ..              answers lines of many sessions, each behind its session's name
+  capture ..           writes the packets of a capture as lines of a script, or of pcef many
+  page ..              shows what a script and its answers say of a session: a page, CSV, or metrics
+  gx ..                speaks of sessions with their PCRF on standard input and output
+  help WORD            prints what a word takes, as WORD --help does
   --help, --version    prints this text, or the version
 
 Example: pcef script examples/profile.toml < examples/tutorial.jsonl

@@ -48,7 +48,9 @@ fn pool_line(alloc: Global, words: &[Vec<u8>]) -> Result<String, AllocError> {
 /// The line of words that ask for nothing.
 pub(crate) fn mistake_line(alloc: Global, words: &[Vec<u8>]) -> Result<String, AllocError> {
     let Some((first, rest)) = words.split_first() else {
-        return format!(in alloc; "A command is missing: script, run or pool.\n");
+        return format!(in alloc;
+            "A command is missing: script, run, pool, check, many, capture, page or gx.\n"
+        );
     };
     let count = rest.len();
     if first.as_slice() == b"script".as_slice() {
@@ -61,5 +63,7 @@ pub(crate) fn mistake_line(alloc: Global, words: &[Vec<u8>]) -> Result<String, A
         return pool_line(alloc, rest);
     }
     let found = word_text(alloc, first.as_slice())?;
-    format!(in alloc; "There is no command {found}: there are script, run and pool.\n")
+    format!(in alloc;
+        "There is no command {found}: there are script, run, pool, check, many, capture, page and gx.\n"
+    )
 }

@@ -2,8 +2,8 @@
 
 ghost use Rattle.std.specs.Prelude.{◌≡◌, []};
 
-use crate::stopped::Stopped;
-use crate::taking::{Output, Taking, write_rest};
+use crate::capture::stopped::Stopped;
+use crate::capture::taking::{Output, Taking, write_rest};
 use pcef_capture_file::{CaptureFault, CaptureStream, Stop};
 use pcef_capture_script::{End, forget, read_front, read_more};
 use std::alloc::Global;

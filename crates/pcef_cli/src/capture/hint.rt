@@ -2,7 +2,7 @@
 
 ghost use Rattle.std.specs.Prelude.{◌≡◌, ◌≢◌, ◌<◌, IfOk, string_bytes};
 ghost use Rattle.pcef_capture_file.specs.declared.fault.CaptureFault.TheVariants.{LinkType, NotACapture, Version};
-ghost use Rattle.pcef_capture.specs.Hints.{advice_on, big_at, hinted_link, link_text, little_at, octet_at, pair_at, version_of, version_text, version_with};
+ghost use Rattle.pcef_cli.specs.Hints.{advice_on, big_at, hinted_link, link_text, little_at, octet_at, pair_at, version_of, version_text, version_with};
 
 use pcef_capture_file::CaptureFault;
 use std::alloc::{AllocError, Global};
@@ -11,23 +11,23 @@ use std::alloc::{AllocError, Global};
 const OTHERS: [(&[u8], &str); 13] = [
     (
         b"\x1f\x8b",
-        "gzip: unpack it first, as by gunzip -c FILE | pcef_capture .. -",
+        "gzip: unpack it first, as by gunzip -c FILE | pcef capture .. -",
     ),
     (
         b"BZh",
-        "bzip2: unpack it first, as by bunzip2 -c FILE | pcef_capture .. -",
+        "bzip2: unpack it first, as by bunzip2 -c FILE | pcef capture .. -",
     ),
     (
         b"\xfd7zXZ",
-        "xz: unpack it first, as by unxz -c FILE | pcef_capture .. -",
+        "xz: unpack it first, as by unxz -c FILE | pcef capture .. -",
     ),
     (
         b"\x28\xb5\x2f\xfd",
-        "zstd: unpack it first, as by unzstd -c FILE | pcef_capture .. -",
+        "zstd: unpack it first, as by unzstd -c FILE | pcef capture .. -",
     ),
     (
         b"\x04\x22\x4d\x18",
-        "lz4: unpack it first, as by lz4 -dc FILE | pcef_capture .. -",
+        "lz4: unpack it first, as by lz4 -dc FILE | pcef capture .. -",
     ),
     (b"PK\x03\x04", "zip: unpack it first"),
     (b"7z\xbc\xaf", "7z: unpack it first"),

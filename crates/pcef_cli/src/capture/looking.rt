@@ -1,7 +1,7 @@
 //! What the octets of an IP packet have for the sessions.
 
-use crate::counts::Outcome;
-use crate::sessions::Sessions;
+use crate::capture::counts::Outcome;
+use crate::capture::sessions::Sessions;
 use pcef_capture_script::Packets;
 use pcef_gtp::{NotTunneled, tunneled_of};
 use pcef_packet::{Dir, Header, PacketFault, read_header};

@@ -1,6 +1,6 @@
 //! The map of sessions: a line `NAME ADDRESS` for each.
 
-use crate::sessions::{Refusal, Sessions};
+use crate::capture::sessions::{Refusal, Sessions};
 use pcef_capture_script::Turn;
 use pcef_packet::Addr;
 use std::alloc::{AllocError, Global};
@@ -79,7 +79,7 @@ fn without_cr(line: &[u8]) -> &[u8] {
     }
 }
 
-/// Whether these octets may be a name, as those of pcef_many.
+/// Whether these octets may be a name, as those of pcef many.
 fn is_name(octets: &[u8]) -> bool {
     1 <= octets.len()
         && octets.len() <= MAX_NAME

@@ -1,12 +1,15 @@
-//! What the program says on standard error. A failing write changes nothing.
+//! What is said on standard error. A failing write changes nothing.
 
-use crate::counts::{Counts, TunnelCounts};
-use crate::hint::hint_of;
-use crate::map::FaultyLine;
-use crate::stopped::Stopped;
+ghost use Rattle.std.specs.Prelude.{◌≤◌};
+
+use crate::asked::CAPTURE;
+use crate::capture::counts::{Counts, TunnelCounts};
+use crate::capture::hint::hint_of;
+use crate::capture::map::FaultyLine;
+use crate::capture::stopped::Stopped;
+use crate::command_line::{print_read_fault, print_write_fault, report_no_memory};
 use pcef_capture_file::CaptureFault;
 use pcef_capture_script::End;
-use pcef_command_line::report_no_memory;
 use std::io::{self, ErrorKind};
 
 /// What was asked for, as far as it is named in what is said.
@@ -52,7 +55,7 @@ fn warn_of_addresses(rt: &HostRuntime, asked: &Asked<'_>) {
         " --gtp takes those in GTP-U tunnels"
     };
     let users = asked.users;
-    let _ = eprintln!(rt; "pcef_capture: no packet has {whose}: is {users} right?{tunnels}");
+    let _ = eprintln!(rt; "pcef capture: no packet has {whose}: is {users} right?{tunnels}");
 }
 
 /// Warns where no packet has an address of a session, none is in a tunnel, or packets were cut.
@@ -62,12 +65,12 @@ fn warn(rt: &HostRuntime, asked: &Asked<'_>, counts: &Counts) {
     }
     if counts.read > 0 && counts.tunnels.not_gtp == counts.read {
         let _ = eprintln!(rt;
-            "pcef_capture: no frame has a packet of a tunnel: without --gtp the packets outside are taken"
+            "pcef capture: no frame has a packet of a tunnel: without --gtp the packets outside are taken"
         );
     }
     if counts.cut > 0 && !asked.pads {
         let _ = eprintln!(rt;
-            "pcef_capture: cut frames were recorded in part, as by a snap length: --pad fills their packets with zeros"
+            "pcef capture: cut frames were recorded in part, as by a snap length: --pad fills their packets with zeros"
         );
     }
 }
@@ -85,36 +88,33 @@ pub(crate) fn report_counts(rt: &HostRuntime, asked: &Asked<'_>, counts: &Counts
 }
 
 /// Reports a line of a map that is at fault, and returns the exit status.
-pub(crate) fn report_map(rt: &HostRuntime, path: &str, faulty: FaultyLine) -> u8 {
+pub(crate) fn report_map(rt: &HostRuntime, path: &str, faulty: FaultyLine) -> u8
+    ensures { result ≤ 4 }
+{
     let FaultyLine { number, fault } = faulty;
     let name = fault.name();
     let message = fault.message();
-    let _ = eprintln!(rt; "map fault {name}\npcef_capture: {path}:{number}: {message}");
+    let _ = eprintln!(rt; "map fault {name}\npcef capture: {path}:{number}: {message}");
     1
 }
 
 /// Reports that a file can't be read, and returns the exit status.
-pub(crate) fn report_read(rt: &HostRuntime, path: &str, error: &io::Error) -> u8 {
+pub(crate) fn report_read(rt: &HostRuntime, path: &str, error: &io::Error) -> u8
+    ensures { result ≤ 4 }
+{
     if error.kind() == ErrorKind::OutOfMemory {
         return report_no_memory(rt);
     }
-    let _ = eprintln!(rt; "read fault\npcef_capture: {path}: {error}");
+    print_read_fault(rt, CAPTURE, path, error);
     4
 }
 
 /// Reports the fault of a capture, and what its octets are.
 fn report_capture(rt: &HostRuntime, file: &str, fault: CaptureFault, octets: &[u8]) {
     let number = fault.number();
-    let _ = eprintln!(rt; "capture fault {number}\npcef_capture: {file}: {fault}");
+    let _ = eprintln!(rt; "capture fault {number}\npcef capture: {file}: {fault}");
     if let Ok(hint) = hint_of(rt.alloc(), fault, octets) {
-        let _ = eprintln!(rt; "pcef_capture: {hint}");
-    }
-}
-
-/// Reports that a file can't be written. A pipe that its reader closed is no fault.
-fn report_write(rt: &HostRuntime, name: &str, error: &io::Error) {
-    if error.kind() != ErrorKind::BrokenPipe {
-        let _ = eprintln!(rt; "write fault\npcef_capture: {name}: {error}");
+        let _ = eprintln!(rt; "pcef capture: {hint}");
     }
 }
 
@@ -124,7 +124,9 @@ pub(crate) fn report_end(
     asked: &Asked<'_>,
     stopped: &Stopped,
     octets: &[u8],
-) -> u8 {
+) -> u8
+    ensures { result ≤ 4 }
+{
     match stopped {
         Stopped::End(End::Done) => {}
         Stopped::End(End::Capture(fault)) => report_capture(rt, asked.file, *fault, octets),
@@ -134,11 +136,11 @@ pub(crate) fn report_end(
         Stopped::End(End::Read(error)) => {
             let _ = report_read(rt, asked.file, error);
         }
-        Stopped::End(End::Write(error)) => report_write(rt, "Standard output", error),
-        Stopped::Times(error) => report_write(rt, asked.times, error),
+        Stopped::End(End::Write(error)) => print_write_fault(rt, CAPTURE, "Standard output", error),
+        Stopped::Times(error) => print_write_fault(rt, CAPTURE, asked.times, error),
         Stopped::NoTime(frame) => {
             let _ = eprintln!(rt;
-                "time fault\npcef_capture: {}: frame {frame} has no time: leave --times out",
+                "time fault\npcef capture: {}: frame {frame} has no time: leave --times out",
                 asked.file
             );
         }

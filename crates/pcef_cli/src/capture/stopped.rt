@@ -1,7 +1,10 @@
 //! Why the program stops.
 
+ghost use Rattle.std.specs.Prelude.{◌≤◌};
+
+use crate::command_line::or_no_memory;
 use pcef_capture_script::End;
-use std::io::{self, ErrorKind};
+use std::io;
 
 /// Why the program stops.
 #[derive(Clone, Copy)]
@@ -16,7 +19,9 @@ pub(crate) enum Stopped {
 
 impl Stopped {
     /// The exit status. Wrong arguments, which clap finds, have 2.
-    pub(crate) fn status(&self) -> u8 {
+    pub(crate) fn status(&self) -> u8
+        ensures { result ≤ 4 }
+    {
         match self {
             Stopped::End(end) => end.status(),
             Stopped::Times(_) => 4,
@@ -25,31 +30,20 @@ impl Stopped {
     }
 }
 
-/// The end of the program at an error of the system: `NoMemory` or this other one.
-fn end_of(error: io::Error, other: End) -> End {
-    match error.kind() {
-        ErrorKind::OutOfMemory => End::NoMemory,
-        _ => other,
-    }
-}
-
 impl Stopped {
     /// Why the program stops where the capture can't be read.
     pub(crate) fn at_read(error: io::Error) -> Stopped {
-        Stopped::End(end_of(error, End::Read(error)))
+        Stopped::End(or_no_memory(error, End::NoMemory, End::Read(error)))
     }
 
     /// Why the program stops where the lines can't be written.
     pub(crate) fn at_write(error: io::Error) -> Stopped {
-        Stopped::End(end_of(error, End::Write(error)))
+        Stopped::End(or_no_memory(error, End::NoMemory, End::Write(error)))
     }
 
     /// Why the program stops where the file for times can't be written.
     pub(crate) fn at_times(error: io::Error) -> Stopped {
-        match error.kind() {
-            ErrorKind::OutOfMemory => Stopped::End(End::NoMemory),
-            _ => Stopped::Times(error),
-        }
+        or_no_memory(error, Stopped::End(End::NoMemory), Stopped::Times(error))
     }
 }
 

@@ -1,9 +1,9 @@
 //! Lines for the packets of sessions, and their times.
 
-use crate::counts::{Counts, Outcome};
-use crate::looking::{Look, Sides, look_into};
-use crate::sessions::Sessions;
-use crate::stopped::Stopped;
+use crate::capture::counts::{Counts, Outcome};
+use crate::capture::looking::{Look, Sides, look_into};
+use crate::capture::sessions::Sessions;
+use crate::capture::stopped::Stopped;
 use pcef_capture_file::{Packet, Time, ip_of, padded};
 use pcef_capture_script::{End, Packets, write_flush_line, write_take_line};
 use pcef_packet::Dir;

@@ -1,5 +1,6 @@
 //! The options of the program.
 
+use crate::asked::CHECK;
 use clap::{Arg, ArgAction, Command, Error};
 use std::alloc::Global;
 
@@ -29,7 +30,7 @@ pub(crate) fn parse_options<'a>(
         .help(
             "The lines of a script, or - for standard input; without it only the profile is checked",
         );
-    let command = Command::new(alloc, "pcef_check")
+    let command = Command::new(alloc, CHECK)
         .version("0.1")
         .about(
             "Reports each line of a script of pcef that is answered by a fault or a refusal, and why",

@@ -1,6 +1,6 @@
 //! Writes what was found.
 
-use crate::advice::{advice_on, field_on};
+use crate::check::advice::{advice_on, field_on};
 use pcef_built_in::ShapedCatalog;
 use pcef_catalog::Offers;
 use pcef_explain::{Explanation, explain, explain_field, explain_rule_name};

@@ -2,7 +2,8 @@
 
 ghost use Rattle.std.specs.Prelude.{◌≤◌};
 
-use pcef_command_line::report_no_memory;
+use crate::asked::GX;
+use crate::command_line::{print_read_fault, refuse_usage, report_no_memory};
 use std::io;
 
 /// Why a connection ends.
@@ -110,23 +111,21 @@ impl End<'_> {
             | End::Sessions
             | End::Stopped(Stop::Left) => {}
             End::Words(text) => {
-                let _ = eprintln!(rt; "usage: {text}");
+                let _ = refuse_usage(rt, text);
             }
             End::Stopped(Stop::NoMemory) => {
                 let _ = report_no_memory(rt);
             }
-            End::Read(file, error) => {
-                let _ = eprintln!(rt; "read fault\npcef_gx_filter: {file}: {error}");
-            }
+            End::Read(file, error) => print_read_fault(rt, GX, file, error),
             End::Stopped(Stop::Refused(Some(code))) => {
                 let _ = eprintln!(rt;
-                    "read fault\npcef_gx_filter: the PCRF refuses the connection by Result-Code {code}"
+                    "read fault\npcef gx: the PCRF refuses the connection by Result-Code {code}"
                 );
             }
             End::Stopped(stop) => {
                 let head = stop.head();
                 let text = stop.text();
-                let _ = eprintln!(rt; "{head}\npcef_gx_filter: {text}");
+                let _ = eprintln!(rt; "{head}\npcef gx: {text}");
             }
         }
         self.status()

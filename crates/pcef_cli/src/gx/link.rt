@@ -2,8 +2,8 @@
 
 ghost use Rattle.std.specs.Prelude.{◌≡◌, ◌<◌, ◌≤◌, ◌^◌, IfOk, length, true};
 
-use crate::end::Stop;
-use crate::members::{Members, Note, put};
+use crate::gx::end::Stop;
+use crate::gx::members::{Members, Note, put};
 use pcef_diameter::{HEADER_LEN, MessageHeader, read_avps, read_message_header};
 use pcef_gx::code::SESSION_ID;
 use pcef_gx::is;

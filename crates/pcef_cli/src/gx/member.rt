@@ -1,8 +1,8 @@
 //! A session, and its dialogue with the PCRF.
 
-use crate::end::Stop;
-use crate::lines::is_end;
-use crate::naming::NO_SESSION;
+use crate::gx::end::Stop;
+use crate::gx::lines::is_end;
+use crate::gx::naming::NO_SESSION;
 use pcef_gx_dialogue::{LeftToHost, RarDone};
 use pcef_gx_handle::{EndRefusal, GxHandle, HearRefusal, Heard, NextRefusal, Stage};
 use pcef_gx_messages::RequestMark;

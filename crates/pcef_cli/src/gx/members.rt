@@ -1,7 +1,7 @@
 //! The sessions of a connection.
 
-use crate::end::Stop;
-use crate::member::{Effect, Member};
+use crate::gx::end::Stop;
+use crate::gx::member::{Effect, Member};
 use pcef_gx_handle::Stage;
 use pcef_gx_messages::RequestMark;
 use pcef_gx_node::Numbering;

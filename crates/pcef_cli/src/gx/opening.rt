@@ -1,16 +1,18 @@
 //! The sessions that are asked for, each with its profile.
 
-use crate::end::{End, Stop};
-use crate::member::Member;
-use crate::members::Members;
-use crate::options::{Options, Sessions};
+use crate::asked::GX;
+use crate::command_line::{print_profile_fault, print_read_fault};
+use crate::gx::end::{End, Stop};
+use crate::gx::member::Member;
+use crate::gx::members::Members;
+use crate::gx::options::{Options, Sessions};
 use pcef_explain::read_text;
 use pcef_gx_handle::{BeginRefusal, GxHandle};
 use pcef_gx_messages::Identity;
 use pcef_gx_node::Access;
 use pcef_handle::{Handle, OpenRefusal};
 use pcef_model::OpenFault;
-use pcef_profile::{ReadProfileFault, explain};
+use pcef_profile::ReadProfileFault;
 use std::io::{self, ErrorKind};
 use std::{fs, str};
 
@@ -22,7 +24,7 @@ fn report_read<'a>(rt: &HostRuntime, file: &str, error: &io::Error) -> End<'a> {
     if error.kind() == ErrorKind::OutOfMemory {
         return End::Stopped(Stop::NoMemory);
     }
-    let _ = eprintln!(rt; "read fault\npcef_gx_filter: {file}: {error}");
+    print_read_fault(rt, GX, file, error);
     End::Unread
 }
 
@@ -32,17 +34,15 @@ fn report_profile<'a>(rt: &HostRuntime, file: &str, text: &[u8], refusal: OpenRe
         OpenRefusal::NoMemory
         | OpenRefusal::Profile(ReadProfileFault::NoMemory)
         | OpenRefusal::Session(OpenFault::NoMemory) => return End::Stopped(Stop::NoMemory),
-        OpenRefusal::Profile(fault) => {
-            let number = fault.number();
-            let _ = eprintln!(rt; "profile fault {number}");
-            if let Ok(text) = str::from_utf8(text) {
-                if let Ok(explanation) = explain(rt.alloc(), text, fault) {
-                    let _ = eprintln!(rt; "pcef_gx_filter: {file}: {explanation}");
-                }
+        OpenRefusal::Profile(fault) => match str::from_utf8(text) {
+            Ok(text) => print_profile_fault(rt, GX, file, text, fault),
+            Err(_) => {
+                let number = fault.number();
+                let _ = eprintln!(rt; "profile fault {number}");
             }
-        }
+        },
         refusal => {
-            let _ = eprintln!(rt; "profile fault\npcef_gx_filter: {file}: {refusal}");
+            let _ = eprintln!(rt; "profile fault\npcef gx: {file}: {refusal}");
         }
     }
     End::Profile
@@ -105,7 +105,7 @@ fn add<'a>(all: &mut Vec<Member>, member: Member) -> Result<(), End<'a>> {
 
 /// Reports a line of a file that names no session.
 fn report_line<'a>(rt: &HostRuntime, file: &str, line: usize, why: &str) -> End<'a> {
-    let _ = eprintln!(rt; "line {line} fault\npcef_gx_filter: {file}: {why}");
+    let _ = eprintln!(rt; "line {line} fault\npcef gx: {file}: {why}");
     End::Profile
 }
 

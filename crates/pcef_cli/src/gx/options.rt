@@ -1,5 +1,6 @@
 //! What the program is asked for.
 
+use crate::asked::GX;
 use clap::{Arg, ArgAction, ArgMatches, Command, Error, value_parser};
 use std::alloc::{AllocError, Global};
 
@@ -130,7 +131,7 @@ fn with_profile<'a>(alloc: Global, command: Command<'a>) -> Result<Command<'a>, 
 
 /// The command line.
 fn command<'a>(alloc: Global) -> Result<Command<'a>, AllocError> {
-    let command = Command::new(alloc, "pcef_gx_filter").version("0.1").about(
+    let command = Command::new(alloc, GX).version("0.1").about(
         "Speaks of a session with its PCRF: reads Diameter on standard input, and writes it on standard output",
     );
     let command = with_sessions(alloc, command)?;

@@ -1,16 +1,17 @@
 //! What comes, and what is done for it.
 
-use crate::end::{End, Stop};
-use crate::lines::Lines;
-use crate::link::Link;
-use crate::member::Effect;
-use crate::members::Note;
-use crate::naming::{is_blank, named};
-use crate::reading::{Arrival, Came, Origin, Readers};
+use crate::command_line::or_no_memory;
+use crate::gx::end::{End, Stop};
+use crate::gx::lines::Lines;
+use crate::gx::link::Link;
+use crate::gx::member::Effect;
+use crate::gx::members::Note;
+use crate::gx::naming::{is_blank, named};
+use crate::gx::reading::{Arrival, Came, Origin, Readers};
 use pcef_gx_node::Numbering;
 use pcef_packet::Addr;
 use std::alloc::Global;
-use std::io::{self, ErrorKind, Write};
+use std::io::Write;
 use std::rt::Clock;
 use std::str;
 use std::sync::Wait;
@@ -47,14 +48,6 @@ struct Serving<'a, W: Write + Drop> {
     lines: Lines,
     names: bool,
     faults: Faults,
-}
-
-/// Where memory is wanted, or why else the connection ends.
-fn stop_of(error: io::Error, other: Stop) -> Stop {
-    match error.kind() {
-        ErrorKind::OutOfMemory => Stop::NoMemory,
-        _ => other,
-    }
 }
 
 /// Says what became of a session that isn't opened.
@@ -143,11 +136,19 @@ impl<'a, W: Write + Drop> Serving<'a, W> {
                 taken
             }
             (Origin::Peer, Came::End) => Err(Stop::Ended),
-            (Origin::Peer, Came::Fault(error)) => Err(stop_of(error, Stop::Input)),
+            (Origin::Peer, Came::Fault(error)) => Err(or_no_memory(
+                error,
+                Stop::NoMemory,
+                Stop::Input,
+            )),
             (Origin::Lines, Came::Octets(octets)) => self.take_lines(rt, &octets),
             (Origin::Lines, Came::End) if self.lines.has_part() => self.end_line(rt),
             (Origin::Lines, Came::End) => Ok(()),
-            (Origin::Lines, Came::Fault(error)) => Err(stop_of(error, Stop::Lines)),
+            (Origin::Lines, Came::Fault(error)) => Err(or_no_memory(
+                error,
+                Stop::NoMemory,
+                Stop::Lines,
+            )),
         }
     }
 

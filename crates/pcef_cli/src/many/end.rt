@@ -2,7 +2,8 @@
 
 ghost use Rattle.std.specs.Prelude.{◌≤◌};
 
-use pcef_command_line::report_no_memory;
+use crate::asked::MANY;
+use crate::command_line::{print_read_fault, report_no_memory};
 use pcef_model::OpenFault;
 use std::io;
 
@@ -51,22 +52,20 @@ impl End<'_> {
         match self {
             End::Clean | End::Faults | End::Profile | End::Left => {}
             End::Session(fault) => {
-                let _ = eprintln!(rt; "profile fault\npcef_many: {fault}");
+                let _ = eprintln!(rt; "profile fault\npcef many: {fault}");
             }
             End::NoMemory => {
                 let _ = report_no_memory(rt);
             }
-            End::Read(file, error) => {
-                let _ = eprintln!(rt; "read fault\npcef_many: {file}: {error}");
-            }
+            End::Read(file, error) => print_read_fault(rt, MANY, file, error),
             End::Lines => {
-                let _ = eprintln!(rt; "read fault\npcef_many: standard input failed");
+                let _ = eprintln!(rt; "read fault\npcef many: standard input failed");
             }
             End::Metrics(file, error) => {
-                let _ = eprintln!(rt; "write fault\npcef_many: {file}: {error}");
+                let _ = eprintln!(rt; "write fault\npcef many: {file}: {error}");
             }
             End::Write => {
-                let _ = eprintln!(rt; "write fault\npcef_many: standard output takes no more");
+                let _ = eprintln!(rt; "write fault\npcef many: standard output takes no more");
             }
         }
         self.status()

@@ -1,7 +1,7 @@
 //! A file of metrics that is kept up to date.
 
-use crate::metrics::metrics_text;
-use crate::watched::Notes;
+use crate::many::metrics::metrics_text;
+use crate::many::watched::Notes;
 use crossbeam_channel::{Receiver, RecvTimeoutError, Sender, bounded};
 use std::alloc::Global;
 use std::io::{self, ErrorKind};

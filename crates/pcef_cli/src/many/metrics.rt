@@ -1,6 +1,6 @@
 //! The totals as metrics, in the text format of Prometheus (version 0.0.4).
 
-use crate::totals::Totals;
+use crate::many::totals::Totals;
 use std::alloc::{AllocError, Global};
 
 /// Text that is being written.

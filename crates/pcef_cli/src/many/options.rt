@@ -1,6 +1,7 @@
 //! What the program is asked for.
 
-use crate::keeping::Keeping;
+use crate::asked::MANY;
+use crate::many::keeping::Keeping;
 use clap::{Arg, ArgAction, ArgMatches, Command, Error, value_parser};
 use std::alloc::{AllocError, Global};
 
@@ -65,7 +66,7 @@ fn profile_argument<'a>(alloc: Global) -> Arg<'a> {
 
 /// The command line.
 fn command<'a>(alloc: Global) -> Result<Command<'a>, AllocError> {
-    Command::new(alloc, "pcef_many")
+    Command::new(alloc, MANY)
         .version("0.1")
         .about(
             "Answers lines of many sessions, each behind its session's name: opens one by {\"do\":\"open\"}, renews it by {\"do\":\"renew\"} and ends it by {\"do\":\"end\"}",

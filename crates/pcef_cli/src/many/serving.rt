@@ -1,8 +1,8 @@
 //! Lines from standard input, and their answers on standard output.
 
-use crate::end::End;
-use crate::progress::watched_input;
-use crate::watched::{Notes, Watched};
+use crate::many::end::End;
+use crate::many::progress::watched_input;
+use crate::many::watched::{Notes, Watched};
 use pcef_built_in::ShapedCatalog;
 use pcef_model::Profile;
 use pcef_output::Fused;
@@ -49,16 +49,30 @@ fn end_whole<'a>(is_any_at_fault: bool) -> End<'a> {
     }
 }
 
+/// What sessions are served with, and in how many threads; lines, or frames in one thread.
+#[derive(Drop)]
+pub(crate) struct Served {
+    pub catalog: ShapedCatalog,
+    pub profile: Profile,
+    pub keys: Keys,
+    pub threads: u8,
+    pub has_frames: bool,
+}
+
 /// Serves lines, or frames, in the calling thread.
 pub(crate) fn serve_here<'a, T: Wait + Drop>(
     waiting: T,
     rt: &HostRuntime,
-    catalog: ShapedCatalog,
-    profile: Profile,
-    keys: RandomState,
-    has_frames: bool,
+    served: Served,
     notes: Arc<Mutex<Notes>>,
 ) -> End<'a> {
+    let Served {
+        catalog,
+        profile,
+        keys,
+        threads: _,
+        has_frames,
+    } = served;
     let alloc = rt.alloc();
     let mut reader = watched_input(rt);
     let watched = Watched::new(waiting, alloc, io::writer(rt), notes);
@@ -66,12 +80,26 @@ pub(crate) fn serve_here<'a, T: Wait + Drop>(
         Ok(writer) => writer,
         Err(_) => return End::NoMemory,
     };
-    let served = if has_frames {
-        serve_frames(alloc, &mut reader, &mut writer, profile, catalog, keys)
+    let answered = if has_frames {
+        serve_frames(
+            alloc,
+            &mut reader,
+            &mut writer,
+            profile,
+            catalog,
+            keys.names,
+        )
     } else {
-        serve(alloc, &mut reader, &mut writer, profile, catalog, keys)
+        serve(
+            alloc,
+            &mut reader,
+            &mut writer,
+            profile,
+            catalog,
+            keys.names,
+        )
     };
-    let end = match served {
+    let end = match answered {
         Ok(is_any_at_fault) => end_whole(is_any_at_fault),
         Err(ScriptFault::Write) => return End::Write,
         Err(fault) => end_of(fault),
@@ -173,17 +201,22 @@ fn serve_all<T: Threads + Wait + Drop + Send + Sync + Copy + 'static>(
     end_of_all(ran)
 }
 
-/// Serves lines in `threads` threads.
+/// Serves lines in threads. Each has a built-in catalog of its own.
 pub(crate) fn serve_in<'a, T: Threads + Wait + Drop + Send + Sync + Copy + 'static>(
     starting: T,
     rt: &HostRuntime,
-    threads: u8,
-    profile: &Profile,
-    keys: Keys,
+    served: Served,
     notes: Arc<Mutex<Notes>>,
 ) -> End<'a> {
+    let Served {
+        catalog: _,
+        profile,
+        keys,
+        threads,
+        has_frames: _,
+    } = served;
     let end = match ways(starting, rt, threads, notes) {
-        Ok(ways) => serve_all(starting, rt, ways, profile, keys),
+        Ok(ways) => serve_all(starting, rt, ways, &profile, keys),
         Err(fault) => Err(fault),
     };
     match end {

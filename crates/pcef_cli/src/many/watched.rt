@@ -1,6 +1,6 @@
 //! A writer whose answers are counted.
 
-use crate::totals::Totals;
+use crate::many::totals::Totals;
 use std::alloc::Global;
 use std::io::{self, ErrorKind, Write};
 use std::sync::{Arc, Mutex, Wait};

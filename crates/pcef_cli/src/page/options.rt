@@ -1,6 +1,8 @@
 //! What the program is asked for.
 
+use crate::asked::PAGE;
 use clap::{Arg, ArgAction, ArgMatches, Command, Error};
+use pcef_page::Sources;
 use std::alloc::{AllocError, Global};
 
 /// What is written.
@@ -21,16 +23,8 @@ pub(crate) enum Format {
 pub(crate) struct Options<'a> {
     /// What is written.
     pub format: Format,
-    /// The path of the packets' times, where they are read.
-    pub times: Option<&'a str>,
-    /// The path of the session's profile, where it is read.
-    pub profile: Option<&'a str>,
-    /// The name of the session, where the lines are those of many.
-    pub session: Option<&'a str>,
-    /// The path of the script.
-    pub lines: &'a str,
-    /// The path of its answers.
-    pub answers: &'a str,
+    /// What is read.
+    pub sources: Sources<'a>,
 }
 
 fn format_of(text: &str) -> Option<Format> {
@@ -64,7 +58,7 @@ fn named<'a>(alloc: Global, id: &'a str, value: &'a str, help: &'a str) -> Arg<'
 }
 
 fn times_argument<'a>(alloc: Global) -> Arg<'a> {
-    let help = "The times of the packets, as pcef_capture --times writes them";
+    let help = "The times of the packets, as pcef capture --times writes them";
     named(alloc, "times", "FILE", help)
 }
 
@@ -74,7 +68,7 @@ fn profile_argument<'a>(alloc: Global) -> Arg<'a> {
 }
 
 fn session_argument<'a>(alloc: Global) -> Arg<'a> {
-    let help = "Shows the last session of this name. LINES and ANSWERS are those of pcef_many";
+    let help = "Shows the last session of this name. LINES and ANSWERS are those of pcef many";
     named(alloc, "session", "NAME", help)
 }
 
@@ -96,7 +90,7 @@ fn answers_argument<'a>(alloc: Global) -> Arg<'a> {
 
 /// The command line.
 fn command<'a>(alloc: Global) -> Result<Command<'a>, AllocError> {
-    Command::new(alloc, "pcef_report")
+    Command::new(alloc, PAGE)
         .version("0.1")
         .about("Shows what a script of pcef and its answers say of a session")
         .arg(format_argument(alloc))?
@@ -111,11 +105,13 @@ fn command<'a>(alloc: Global) -> Result<Command<'a>, AllocError> {
 fn options_of<'a>(matches: &ArgMatches<'a>) -> Option<Options<'a>> {
     Some(Options {
         format: matches.get_str("format").and_then(format_of)?,
-        times: matches.get_str("times"),
-        profile: matches.get_str("profile"),
-        session: matches.get_str("session"),
-        lines: matches.get_str("lines")?,
-        answers: matches.get_str("answers")?,
+        sources: Sources {
+            times: matches.get_str("times"),
+            profile: matches.get_str("profile"),
+            session: matches.get_str("session"),
+            lines: matches.get_str("lines")?,
+            answers: matches.get_str("answers")?,
+        },
     })
 }
 

@@ -1,7 +1,7 @@
 -- Lines that are left to be read: for private clauses.
 use Rattle.std.specs.Prelude.{ℕ, ◌≡◌, ◌+◌, ◌<◌, ◌≤◌, ◌^◌, List, [], ◌∷◌, length, Option, Some, None, option_map}
-use Rattle.pcef_figures.specs.Pairing.{filled_from, split_lines}
-use Rattle.pcef_figures.specs.declared.pairing.Lines.{Lines}
+use Rattle.pcef_page.specs.Pairing.{filled_from, split_lines}
+use Rattle.pcef_page.specs.declared.pairing.Lines.{Lines}
 
 -- the first line, and what follows the line feed that ends it
 abbrev pub IsFirstLine : List ℕ → List ℕ → Option (List ℕ) → Type 0

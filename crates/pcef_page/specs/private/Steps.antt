@@ -2,15 +2,15 @@
 use Rattle.std.specs.Prelude.{ℕ, ◌≡◌, ◌+◌, ◌-◌, ◌^◌, ◌++◌, Option, true, codes, map, max, min}
 use Rattle.serde_json.specs.Data.{Data}
 use Rattle.serde_json.specs.Find.{get}
-use Rattle.pcef_figures.specs.declared.collecting.CollectFault.{CollectFault}
-use Rattle.pcef_figures.specs.declared.collecting.CollectFault.TheVariants as fault
-use Rattle.pcef_figures.specs.declared.collecting.Collected.{Collected}
-use Rattle.pcef_figures.specs.declared.figures.Figures.{Figures}
-use Rattle.pcef_figures.specs.declared.pairing.Filled.{Filled}
-use Rattle.pcef_figures.specs.Grants.{generation_behind, grant_asked, grant_of, grants_in, key_of, keys_behind, keys_shown, or_zero}
-use Rattle.pcef_figures.specs.Guarantees.{rates_commanded, rates_in, rules_behind, rules_commanded}
-use Rattle.pcef_figures.specs.Pairing.{Exchange, exchange_of, is_answered, has_value}
-use Rattle.pcef_figures.specs.Usages.{member_number, refusal_of, refusals_in, usage_figure_of, usage_in}
+use Rattle.pcef_page.specs.declared.collecting.CollectFault.{CollectFault}
+use Rattle.pcef_page.specs.declared.collecting.CollectFault.TheVariants as fault
+use Rattle.pcef_page.specs.declared.collecting.Collected.{Collected}
+use Rattle.pcef_page.specs.declared.figures.Figures.{Figures}
+use Rattle.pcef_page.specs.declared.pairing.Filled.{Filled}
+use Rattle.pcef_page.specs.Grants.{generation_behind, grant_asked, grant_of, grants_in, key_of, keys_behind, keys_shown, or_zero}
+use Rattle.pcef_page.specs.Guarantees.{rates_commanded, rates_in, rules_behind, rules_commanded}
+use Rattle.pcef_page.specs.Pairing.{Exchange, exchange_of, is_answered, has_value}
+use Rattle.pcef_page.specs.Usages.{member_number, refusal_of, refusals_in, usage_figure_of, usage_in}
 
 abbrev pub exchange_by : Filled → Filled → Exchange
 exchange_by line answer = exchange_of ((line.number, line.octets.now), (answer.number, answer.octets.now))

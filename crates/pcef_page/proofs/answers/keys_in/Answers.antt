@@ -2,9 +2,9 @@ use Rattle.std.proofs.Common.{◌∙◌, ap, arith, sym}
 use Rattle.std.proofs.lemmas.List.{take_all}
 use Rattle.std.specs.Prelude.{map}
 use Rattle.serde_json.specs.View.{view}
-use Rattle.pcef_figures.specs.Grants.{key_in, keys_in_all}
-use Rattle.pcef_figures.proofs.UsageLists.{keys_each}
-use Rattle.pcef_figures.proofs.answers.keys_in.Goals as goal
+use Rattle.pcef_page.specs.Grants.{key_in, keys_in_all}
+use Rattle.pcef_page.proofs.UsageLists.{keys_each}
+use Rattle.pcef_page.proofs.answers.keys_in.Goals as goal
 
 pub returns : goal.returns
 returns c =

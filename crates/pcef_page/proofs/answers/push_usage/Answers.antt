@@ -3,9 +3,9 @@ use Rattle.std.proofs.lemmas.List.{take_all}
 use Rattle.std.specs.Prelude.{map}
 use Rattle.std.specs.List.{flat_map}
 use Rattle.serde_json.specs.View.{view}
-use Rattle.pcef_figures.specs.Usages.{usage_of_report, usages_of_all, usage_figure_of}
-use Rattle.pcef_figures.proofs.UsageLists.{told_flat}
-use Rattle.pcef_figures.proofs.answers.push_usage.Goals as goal
+use Rattle.pcef_page.specs.Usages.{usage_of_report, usages_of_all, usage_figure_of}
+use Rattle.pcef_page.proofs.UsageLists.{told_flat}
+use Rattle.pcef_page.proofs.answers.push_usage.Goals as goal
 
 pub returns : goal.returns
 returns c =

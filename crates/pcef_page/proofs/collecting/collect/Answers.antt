@@ -1,13 +1,13 @@
 use Rattle.std.proofs.Common.{rules, ◌≡◌, ◌∙◌, ◌+◌, ◌++◌, [], ◌∷◌, length, length-append, append_assoc, map, refl, sym, ap, arith}
 use Rattle.std.specs.List.{zip}
-use Rattle.pcef_figures.specs.Pairing.{exchange_of}
-use Rattle.pcef_figures.specs.Grants.{grant_of, key_of}
-use Rattle.pcef_figures.specs.Usages.{refusal_of, usage_figure_of}
-use Rattle.pcef_figures.specs.private.Lines.{left}
-use Rattle.pcef_figures.specs.private.Steps.{exchange_by}
-use Rattle.pcef_figures.specs.Guarantees.{rules_behind}
-use Rattle.pcef_figures.proofs.Exchanges.{exchanges_next, rules_more, tells_more}
-use Rattle.pcef_figures.proofs.collecting.collect.Goals as goal
+use Rattle.pcef_page.specs.Pairing.{exchange_of}
+use Rattle.pcef_page.specs.Grants.{grant_of, key_of}
+use Rattle.pcef_page.specs.Usages.{refusal_of, usage_figure_of}
+use Rattle.pcef_page.specs.private.Lines.{left}
+use Rattle.pcef_page.specs.private.Steps.{exchange_by}
+use Rattle.pcef_page.specs.Guarantees.{rules_behind}
+use Rattle.pcef_page.proofs.Exchanges.{exchanges_next, rules_more, tells_more}
+use Rattle.pcef_page.proofs.collecting.collect.Goals as goal
 
 pub loop-line-init : goal.loop-line-init
 loop-line-init g c =

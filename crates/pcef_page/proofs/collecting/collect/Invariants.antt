@@ -1,10 +1,10 @@
 use Rattle.std.proofs.Common.{◌≡◌, ◌<◌, ◌^◌, ◌+◌, ◌++◌, List, [], length}
 use Rattle.std.specs.Prelude.{map}
 use Rattle.std.specs.List.{zip}
-use Rattle.pcef_figures.specs.Collecting.{AreFiguresOf, rules_from}
-use Rattle.pcef_figures.specs.Pairing.{Exchange, exchange_of, exchanges, filled}
-use Rattle.pcef_figures.specs.private.Lines.{HasRoom, left, size}
-use Rattle.pcef_figures.proofs.collecting.collect.Given as goal
+use Rattle.pcef_page.specs.Collecting.{AreFiguresOf, rules_from}
+use Rattle.pcef_page.specs.Pairing.{Exchange, exchange_of, exchanges, filled}
+use Rattle.pcef_page.specs.private.Lines.{HasRoom, left, size}
+use Rattle.pcef_page.proofs.collecting.collect.Given as goal
 
 -- the figures are those of the lines so far
 abbrev pub invariant-loop-line : goal.invariant-loop-line

@@ -1,8 +1,8 @@
 use Rattle.std.proofs.Common.{◌≡◌, ◌∙◌, Some, subst, sym}
 use Rattle.serde_json.specs.Read.{read}
 use Rattle.serde_json.specs.View.{view}
-use Rattle.pcef_figures.proofs.Exchanges.{data_read, other_none}
-use Rattle.pcef_figures.proofs.collecting.value_of.Goals as goal
+use Rattle.pcef_page.proofs.Exchanges.{data_read, other_none}
+use Rattle.pcef_page.proofs.collecting.value_of.Goals as goal
 
 pub returns-in_default : goal.returns-in_default
 returns-in_default c = other_none c.args.line.now c.in_default.ensures.cases.0

@@ -3,8 +3,8 @@ use Rattle.std.specs.List.{flat_map}
 use Rattle.std.proofs.lemmas.Iterator.{YieldsList-from_chars}
 use Rattle.std.proofs.lemmas.Iterator.Consumers.{YieldsList-end}
 use Rattle.std.proofs.lemmas.List.Folds.{flat_map-map}
-use Rattle.pcef_report.specs.Labels.{label_character}
-use Rattle.pcef_report.proofs.metrics.push_label.Goals as goal
+use Rattle.pcef_page.specs.Labels.{label_character}
+use Rattle.pcef_page.proofs.metrics.push_label.Goals as goal
 
 pub returns : goal.returns
 returns c =

@@ -1,5 +1,5 @@
-use Rattle.pcef_figures.proofs.LinesLeft.{first_alone, first_found}
-use Rattle.pcef_figures.proofs.pairing.first_line.Goals as goal
+use Rattle.pcef_page.proofs.LinesLeft.{first_alone, first_found}
+use Rattle.pcef_page.proofs.pairing.first_line.Goals as goal
 
 pub returns-in_default : goal.returns-in_default
 returns-in_default c = first_alone c.args.octets.now c.in_default.ensures

@@ -1,8 +1,8 @@
 use Rattle.std.proofs.Common.{subst, sym}
 use Rattle.std.proofs.lemmas.Map.Text.{btree_map_updates_str}
-use Rattle.pcef_figures.specs.Sums.{IsSum}
-use Rattle.pcef_figures.proofs.NamedSums.{more_of}
-use Rattle.pcef_figures.proofs.sums.add.Goals as goal
+use Rattle.pcef_page.specs.Sums.{IsSum}
+use Rattle.pcef_page.proofs.NamedSums.{more_of}
+use Rattle.pcef_page.proofs.sums.add.Goals as goal
 
 pub returns : goal.returns
 returns c = λ key n was.

@@ -1,8 +1,8 @@
 use Rattle.std.proofs.Common.{◌∙◌, ◌+◌, ap, subst, sym, take, if◌then◌else◌}
 use Rattle.std.specs.Str.{bytes_eq}
 use Rattle.std.proofs.lemmas.List.Sums.{sum_by_more}
-use Rattle.pcef_figures.specs.Sums.{IsSum, reported_for, sum_in, usage_octets}
-use Rattle.pcef_figures.proofs.sums.octets_by_key.Goals as goal
+use Rattle.pcef_page.specs.Sums.{IsSum, reported_for, sum_in, usage_octets}
+use Rattle.pcef_page.proofs.sums.octets_by_key.Goals as goal
 
 pub loop-report-preserved : goal.loop-report-preserved
 loop-report-preserved c = λ key.

@@ -1,8 +1,8 @@
 use Rattle.std.proofs.Common.{◌∙◌, ◌+◌, ap, string_bytes, subst, sym, take, if◌then◌else◌}
 use Rattle.std.specs.Str.{bytes_eq}
 use Rattle.std.proofs.lemmas.List.Sums.{sum_by_more}
-use Rattle.pcef_figures.specs.Sums.{IsSum, counted_for_rule, sum_in, weight_by}
-use Rattle.pcef_figures.proofs.sums.sums_by_rule.Goals as goal
+use Rattle.pcef_page.specs.Sums.{IsSum, counted_for_rule, sum_in, weight_by}
+use Rattle.pcef_page.proofs.sums.sums_by_rule.Goals as goal
 
 pub loop-packet-preserved : goal.loop-packet-preserved
 loop-packet-preserved c = λ rule.

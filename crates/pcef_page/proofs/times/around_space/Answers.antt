@@ -1,6 +1,6 @@
 use Rattle.std.proofs.Common.{◌∙◌, sym}
-use Rattle.pcef_figures.proofs.Spaces.{back_alone, back_found, front_alone, front_found}
-use Rattle.pcef_figures.proofs.times.around_space.Goals as goal
+use Rattle.pcef_page.proofs.Spaces.{back_alone, back_found, front_alone, front_found}
+use Rattle.pcef_page.proofs.times.around_space.Goals as goal
 
 pub returns-in_default-clause-front : goal.returns-in_default-clause-front
 returns-in_default-clause-front c = front_alone c.args.line.now c.in_default.ensures

@@ -1,8 +1,8 @@
 use Rattle.std.proofs.Common.{◌≡◌, ◌≤◌}
 use Rattle.std.specs.Prelude.{filter}
-use Rattle.pcef_figures.specs.Times.{has_packet}
-use Rattle.pcef_figures.specs.private.Lines.{HasRoom, left, size}
-use Rattle.pcef_figures.proofs.times.next_take.Given as goal
+use Rattle.pcef_page.specs.Times.{has_packet}
+use Rattle.pcef_page.specs.private.Lines.{HasRoom, left, size}
+use Rattle.pcef_page.proofs.times.next_take.Given as goal
 
 -- the lines before take no packet
 abbrev pub invariant-loop-line : goal.invariant-loop-line

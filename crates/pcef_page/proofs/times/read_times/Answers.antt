@@ -3,11 +3,11 @@ use Rattle.std.specs.Prelude.{◌≢◌}
 use Rattle.std.specs.List.{zip}
 use Rattle.std.proofs.lemmas.List.{map-append}
 use Rattle.std.proofs.lemmas.List.Elements.{All-push}
-use Rattle.pcef_figures.specs.Pairing.{filled}
-use Rattle.pcef_figures.specs.Times.{HaveTimes, has_packet, stamp_of_pair, takes}
-use Rattle.pcef_figures.specs.private.Lines.{left}
-use Rattle.pcef_figures.proofs.Timed.{has_stamp, no_more_takes, no_more_times, none_left, pairs_next, take_left}
-use Rattle.pcef_figures.proofs.times.read_times.Goals as goal
+use Rattle.pcef_page.specs.Pairing.{filled}
+use Rattle.pcef_page.specs.Times.{HaveTimes, has_packet, stamp_of_pair, takes}
+use Rattle.pcef_page.specs.private.Lines.{left}
+use Rattle.pcef_page.proofs.Timed.{has_stamp, no_more_takes, no_more_times, none_left, pairs_next, take_left}
+use Rattle.pcef_page.proofs.times.read_times.Goals as goal
 
 pub loop-stamps-init : goal.loop-stamps-init
 loop-stamps-init c =

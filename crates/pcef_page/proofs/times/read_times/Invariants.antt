@@ -1,10 +1,10 @@
 use Rattle.std.proofs.Common.{◌≡◌, ◌++◌, ℕ, List, Some, length}
 use Rattle.std.specs.Prelude.{filter, map}
 use Rattle.std.specs.List.{zip}
-use Rattle.pcef_figures.specs.Pairing.{filled}
-use Rattle.pcef_figures.specs.Times.{HaveTimes, has_packet, stamp_of_pair, takes}
-use Rattle.pcef_figures.specs.private.Lines.{HasRoom, left, size}
-use Rattle.pcef_figures.proofs.times.read_times.Given as goal
+use Rattle.pcef_page.specs.Pairing.{filled}
+use Rattle.pcef_page.specs.Times.{HaveTimes, has_packet, stamp_of_pair, takes}
+use Rattle.pcef_page.specs.private.Lines.{HasRoom, left, size}
+use Rattle.pcef_page.proofs.times.read_times.Given as goal
 
 -- the packets so far have their times
 abbrev pub invariant-loop-stamps : goal.invariant-loop-stamps

@@ -1,6 +1,6 @@
 use Rattle.std.proofs.Common.{◌≡◌, ◌≤◌}
-use Rattle.pcef_figures.specs.private.Lines.{HasRoom, left, size}
-use Rattle.pcef_figures.proofs.pairing.Lines.next.Given as goal
+use Rattle.pcef_page.specs.private.Lines.{HasRoom, left, size}
+use Rattle.pcef_page.proofs.pairing.Lines.next.Given as goal
 
 -- the lines before were blank
 abbrev pub invariant-loop-line : goal.invariant-loop-line

@@ -1,7 +1,7 @@
 use Rattle.std.proofs.Common.{◌<◌, ◌∙◌, length, length-set, slice_index, arith}
-use Rattle.pcef_figures.specs.Guarantees.{bearers, down_of, up_of}
-use Rattle.pcef_figures.proofs.RuleLists.{more_pairs, pair_is}
-use Rattle.pcef_figures.proofs.rates.ActiveRules.all_sums.Goals as goal
+use Rattle.pcef_page.specs.Guarantees.{bearers, down_of, up_of}
+use Rattle.pcef_page.proofs.RuleLists.{more_pairs, pair_is}
+use Rattle.pcef_page.proofs.rates.ActiveRules.all_sums.Goals as goal
 
 pub loop-place-preserved : goal.loop-place-preserved
 loop-place-preserved c =

@@ -1,6 +1,6 @@
 use Rattle.std.proofs.Common.{◌≡◌, ◌<◌, ℕ, length, slice_index, slice_index_or}
-use Rattle.pcef_figures.specs.Guarantees.{bearers, down_of, up_of}
-use Rattle.pcef_figures.proofs.rates.ActiveRules.all_sums.Given as goal
+use Rattle.pcef_page.specs.Guarantees.{bearers, down_of, up_of}
+use Rattle.pcef_page.proofs.rates.ActiveRules.all_sums.Given as goal
 
 abbrev pub invariant-loop-place : goal.invariant-loop-place
 invariant-loop-place l = record {

@@ -2,10 +2,10 @@ use Rattle.std.proofs.Common.{rules, ◌∙◌, ap, map}
 use Rattle.std.specs.Prelude.{not}
 use Rattle.std.specs.Str.{bytes_eq}
 use Rattle.std.proofs.lemmas.Fn.{filter_same}
-use Rattle.pcef_figures.specs.Guarantees.{without_rule}
-use Rattle.pcef_figures.specs.private.Rules.{rule_of}
-use Rattle.pcef_figures.proofs.RuleLists.{map_filtered}
-use Rattle.pcef_figures.proofs.rates.ActiveRules.forget.Goals as goal
+use Rattle.pcef_page.specs.Guarantees.{without_rule}
+use Rattle.pcef_page.specs.private.Rules.{rule_of}
+use Rattle.pcef_page.proofs.RuleLists.{map_filtered}
+use Rattle.pcef_page.proofs.rates.ActiveRules.forget.Goals as goal
 
 pub returns : goal.returns
 returns c =

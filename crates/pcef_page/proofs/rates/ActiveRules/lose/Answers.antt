@@ -1,10 +1,10 @@
 use Rattle.std.proofs.Common.{rules, ◌∙◌, ap, map}
 use Rattle.std.specs.Prelude.{◌==◌, Some, not}
 use Rattle.std.proofs.lemmas.Fn.{filter_same}
-use Rattle.pcef_figures.specs.Guarantees.{without_rules_on}
-use Rattle.pcef_figures.specs.private.Rules.{rule_of}
-use Rattle.pcef_figures.proofs.RuleLists.{map_filtered}
-use Rattle.pcef_figures.proofs.rates.ActiveRules.lose.Goals as goal
+use Rattle.pcef_page.specs.Guarantees.{without_rules_on}
+use Rattle.pcef_page.specs.private.Rules.{rule_of}
+use Rattle.pcef_page.proofs.RuleLists.{map_filtered}
+use Rattle.pcef_page.proofs.rates.ActiveRules.lose.Goals as goal
 
 pub returns-in-Some : goal.returns-in-Some
 returns-in-Some c =

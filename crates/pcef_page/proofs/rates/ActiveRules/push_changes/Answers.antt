@@ -1,8 +1,8 @@
 use Rattle.std.proofs.Common.{◌≡◌, ◌++◌, subst, take, arith}
 use Rattle.std.specs.List.{flat_map}
-use Rattle.pcef_figures.specs.Guarantees.{bearers, rate_change}
-use Rattle.pcef_figures.proofs.RuleLists.{flat_next}
-use Rattle.pcef_figures.proofs.rates.ActiveRules.push_changes.Goals as goal
+use Rattle.pcef_page.specs.Guarantees.{bearers, rate_change}
+use Rattle.pcef_page.proofs.RuleLists.{flat_next}
+use Rattle.pcef_page.proofs.rates.ActiveRules.push_changes.Goals as goal
 
 pub loop-place-preserved : goal.loop-place-preserved
 loop-place-preserved c = λ rules due.

@@ -1,7 +1,7 @@
 use Rattle.std.proofs.Common.{◌≡◌, ◌<◌, ◌++◌, ℕ, slice_index_or, List, slice_index, take}
 use Rattle.std.specs.List.{flat_map}
-use Rattle.pcef_figures.specs.Guarantees.{RuleFigure, bearers, rate_change, down_of, up_of}
-use Rattle.pcef_figures.proofs.rates.ActiveRules.push_changes.Given as goal
+use Rattle.pcef_page.specs.Guarantees.{RuleFigure, bearers, rate_change, down_of, up_of}
+use Rattle.pcef_page.proofs.rates.ActiveRules.push_changes.Given as goal
 
 abbrev pub invariant-loop-place : goal.invariant-loop-place
 invariant-loop-place l = (rules : List RuleFigure)

@@ -1,7 +1,7 @@
 use Rattle.std.proofs.Common.{◌≡◌, ◌-◌, ◌^◌, min, take}
 use Rattle.std.specs.List.{sum_by}
-use Rattle.pcef_figures.proofs.RuleLists.{downs, ups}
-use Rattle.pcef_figures.proofs.rates.ActiveRules.sums.Given as goal
+use Rattle.pcef_page.proofs.RuleLists.{downs, ups}
+use Rattle.pcef_page.proofs.rates.ActiveRules.sums.Given as goal
 
 abbrev pub invariant-loop-rule : goal.invariant-loop-rule
 invariant-loop-rule l = record {

@@ -1,4 +1,4 @@
-"""`pcef_gx_filter`, a PCEF over Gx on standard input and output: its messages octet for octet, its lines, its ends."""
+"""`pcef gx`, a PCEF over Gx on standard input and output: its messages octet for octet, its lines, its ends."""
 import errno
 import os
 import struct
@@ -25,7 +25,7 @@ MONITOR = gx(1067, [
     gx(1066, b"vid", mandatory=False), avp(431, [avp(421, struct.pack(">Q", 50))]), gx(1068, 1, mandatory=False),
 ], mandatory=False)
 
-ENDED = lines("read fault", "pcef_gx_filter: standard input ended before the session")
+ENDED = lines("read fault", "pcef gx: standard input ended before the session")
 
 
 def usage(key, octets):
@@ -169,7 +169,7 @@ class Dialogue(GxFilterTest):
         filter_ = Filter(self).opened()
         filter_.send(message(REQUEST, DPR, BASE, 71, *origin(PCRF), avp(273, 0)))
         filter_.hears(message(0, DPR, BASE, 71, result(2001), *origin(HOST)))
-        filter_.ends(4, lines("read fault", "pcef_gx_filter: the PCRF disconnected before the end of the session"))
+        filter_.ends(4, lines("read fault", "pcef gx: the PCRF disconnected before the end of the session"))
 
     def test_the_pcrf_takes_leave_behind_the_session(self):
         filter_ = Filter(self).opened()
@@ -285,7 +285,7 @@ class Ends(GxFilterTest):
 
     def test_streams_that_are_lost(self):
         lost = "what came is no message, and where the next one begins can't be told"
-        said = lines("read fault", f"pcef_gx_filter: {lost}")
+        said = lines("read fault", f"pcef gx: {lost}")
         for octets in (b"HTTP/1.1 400 Bad Request", struct.pack(">I", 1 << 24 | 16), struct.pack(">I", 1 << 24 | 65540),
                        struct.pack(">I", 1 << 24 | 22)):
             with self.subTest(octets=octets):
@@ -298,13 +298,13 @@ class Ends(GxFilterTest):
         filter_ = Filter(self)
         filter_.hears(cer(7))
         filter_.send(message(REQUEST, DWR, BASE, 70, *origin(PCRF)))
-        filter_.ends(4, lines("read fault", "pcef_gx_filter: the PCRF sent another message than a CEA first"))
+        filter_.ends(4, lines("read fault", "pcef gx: the PCRF sent another message than a CEA first"))
 
     def test_a_connection_that_is_refused(self):
         filter_ = Filter(self)
         filter_.hears(cer(7))
         filter_.send(cea(7, 5010))
-        filter_.ends(4, lines("read fault", "pcef_gx_filter: the PCRF refuses the connection by Result-Code 5010"))
+        filter_.ends(4, lines("read fault", "pcef gx: the PCRF refuses the connection by Result-Code 5010"))
 
     def test_a_session_that_is_refused(self):
         filter_ = Filter(self)
@@ -350,12 +350,12 @@ class Ends(GxFilterTest):
     def test_files(self):
         self.write("bad.toml", profile(rows=0))
         for words, file, status, said in (
-            ([], "none.toml", 4, ["read fault", "pcef_gx_filter: none.toml: No such file or directory (os error 2)"]),
+            ([], "none.toml", 4, ["read fault", "pcef gx: none.toml: No such file or directory (os error 2)"]),
             (["--packets", "none"], "profile.toml", 4,
-             ["read fault", "pcef_gx_filter: none: No such file or directory (os error 2)"]),
+             ["read fault", "pcef gx: none: No such file or directory (os error 2)"]),
             ([], "bad.toml", 1, [
                 "profile fault 4",
-                "pcef_gx_filter: bad.toml: BadValue: rows = 0: a whole number from 1 to 4294967295 is expected",
+                "pcef gx: bad.toml: BadValue: rows = 0: a whole number from 1 to 4294967295 is expected",
             ]),
         ):
             with self.subTest(file=file):
@@ -438,13 +438,13 @@ class Many(GxFilterTest):
             ("", 2, ["usage: --sessions names no session"]),
             ("gw;1 profile.toml\ngw;2\n", 1, [
                 "line 2 fault",
-                "pcef_gx_filter: sessions: a Session-Id, a space and the path of a profile are expected",
+                "pcef gx: sessions: a Session-Id, a space and the path of a profile are expected",
             ]),
             ("gw;1 profile.toml\ngw;1 profile.toml\n", 1, [
-                "line 2 fault", "pcef_gx_filter: sessions: the Session-Id stands in an earlier line",
+                "line 2 fault", "pcef gx: sessions: the Session-Id stands in an earlier line",
             ]),
             ("gw;1 none.toml\n", 4, [
-                "read fault", "pcef_gx_filter: none.toml: No such file or directory (os error 2)",
+                "read fault", "pcef gx: none.toml: No such file or directory (os error 2)",
             ]),
         ):
             with self.subTest(text=text):

@@ -1,10 +1,10 @@
-"""What `pcef_report` shows of scripts with answers: their pairing, packets, keys and rates, worked out by hand."""
+"""What `pcef page` shows of scripts with answers: their pairing, packets, keys and rates, worked out by hand."""
 import os
 import re
 import subprocess
 
 from commands import ATTACH, DNS_ANSWER, FLUSH, SHOW, line, take
-from programs import PCEF_REPORT, ProgramTest, lines
+from programs import PCEF_PAGE, ProgramTest, lines
 
 # An answer is a line of JSON too.
 answer = line
@@ -64,7 +64,7 @@ class ReportTest(ProgramTest):
         """How the program ends on a script and its answers."""
         self.write("script", script)
         self.write("answers", answers)
-        return self.run_on(PCEF_REPORT, ["--format", form, *words, "script", "answers"])
+        return self.run_on(PCEF_PAGE, ["--format", form, *words, "script", "answers"])
 
     def shown(self, form, script, answers, *words):
         """What is shown of a script and its answers in a form."""
@@ -91,7 +91,7 @@ class ReportTest(ProgramTest):
     def is_apart(self, script, answers, fault, seeming=""):
         """Expects this fault of files that don't belong together, and what they seem to be."""
         came = self.report("csv", script, answers)
-        advice = "pcef_report: script has to be the script, and answers what pcef script wrote for it"
+        advice = "pcef page: script has to be the script, and answers what pcef script wrote for it"
         said = lines(fault, advice) + seeming
         self.assertEqual((came.status, came.wrote, came.said.decode()), (1, b"", said))
 
@@ -537,7 +537,7 @@ class Times(ReportTest):
 
     def is_untimed(self, times, fault, script=SCRIPT, answers=ANSWERS):
         came = self.timed("csv", script, answers, times)
-        said = lines(fault, "pcef_report: times has to be what pcef_capture --times wrote")
+        said = lines(fault, "pcef page: times has to be what pcef capture --times wrote")
         self.assertEqual((came.status, came.wrote, came.said.decode()), (1, b"", said))
 
     def test_there_is_a_time_for_each_take_line(self):
@@ -624,7 +624,7 @@ class OneOfMany(ReportTest):
         script, answers = self.many()
         for name in "aa", "c", "", "-":
             came = self.report("csv", script, answers, "--session", name)
-            advice = f"pcef_report: no open of {name} in script was answered by ok"
+            advice = f"pcef page: no open of {name} in script was answered by ok"
             self.assertEqual((came.status, came.said.decode()), (1, lines(f"there is no session {name}", advice)))
 
 
@@ -640,7 +640,7 @@ class Words(ReportTest):
         for profile in "", "ue = 7", "ue", b"\xff":
             self.write("profile", profile)
             came = self.report("html", SCRIPT, ANSWERS, "--profile", "profile")
-            said = lines("profile fault", 'pcef_report: profile: an address is expected, as ue = "10.0.0.2"')
+            said = lines("profile fault", 'pcef page: profile: an address is expected, as ue = "10.0.0.2"')
             self.assertEqual((came.status, came.said.decode()), (1, said))
 
     def test_one_file_may_be_standard_input(self):
@@ -648,22 +648,22 @@ class Words(ReportTest):
         self.write("answers", ANSWERS)
         self.write("-", "a file")
         due = lines(COLUMNS, *RECORDS)
-        self.ends(PCEF_REPORT, ["--format", "csv", "script", "-"], ANSWERS, wrote=due)
-        self.ends(PCEF_REPORT, ["--format", "csv", "-", "answers"], SCRIPT, wrote=due)
+        self.ends(PCEF_PAGE, ["--format", "csv", "script", "-"], ANSWERS, wrote=due)
+        self.ends(PCEF_PAGE, ["--format", "csv", "-", "answers"], SCRIPT, wrote=due)
         said = lines("usage: only one of the files can be - for standard input")
-        self.ends(PCEF_REPORT, ["--format", "csv", "-", "-"], SCRIPT, 2, said=said)
-        self.ends(PCEF_REPORT, ["--times", "-", "-", "answers"], SCRIPT, 2, said=said)
+        self.ends(PCEF_PAGE, ["--format", "csv", "-", "-"], SCRIPT, 2, said=said)
+        self.ends(PCEF_PAGE, ["--times", "-", "-", "answers"], SCRIPT, 2, said=said)
 
     def test_a_file_that_is_not_there(self):
-        said = lines("read fault", "pcef_report: nowhere: No such file or directory (os error 2)")
-        self.ends(PCEF_REPORT, ["nowhere", "answers"], status=4, said=said)
+        said = lines("read fault", "pcef page: nowhere: No such file or directory (os error 2)")
+        self.ends(PCEF_PAGE, ["nowhere", "answers"], status=4, said=said)
 
     def test_a_reader_that_leaves_is_no_fault_to_report(self):
         self.write("script", SCRIPT)
         self.write("answers", ANSWERS)
         reader, writer = os.pipe()
         os.close(reader)
-        words = [PCEF_REPORT, "script", "answers"]
+        words = [*PCEF_PAGE, "script", "answers"]
         process = subprocess.Popen(words, stdout=writer, stderr=subprocess.PIPE, cwd=self.room)
         os.close(writer)
         _, said = process.communicate(timeout=60)
@@ -677,8 +677,8 @@ class Pages(ReportTest):
         self.write("answers", 's {"ok":true}\n')
         parts = "".join(f"{part} %\r" for part in range(1, 101))
         words = ["--session", "s", "--format", "prometheus", "lines", "answers"]
-        self.assertEqual(self.shown_on_a_terminal(PCEF_REPORT, words, "answers"), f"{parts}     \r")
-        self.assertEqual(self.run_on(PCEF_REPORT, words).said, b"")
+        self.assertEqual(self.shown_on_a_terminal(PCEF_PAGE, words, "answers"), f"{parts}     \r")
+        self.assertEqual(self.run_on(PCEF_PAGE, words).said, b"")
 
     def test_a_long_session_has_a_small_page(self):
         packets = "".join(take(DNS_ANSWER) + "\n" + FLUSH + "\n" for _ in range(20000))
