@@ -7,7 +7,7 @@ use Rattle.std.proofs.lemmas.List.Folds.{list_any_none}
 use Rattle.pcef_rule.specs.declared.quantity.Qos.{Qos}
 use Rattle.pcef_rule.specs.declared.rule.Properties.{Properties}
 use Rattle.pcef_catalog.proofs.Alternatives.{list_any_map}
-use Rattle.pcef_lists.proofs.Foremost.{found_is_foremost, none_passes}
+use Rattle.pcef_base.proofs.Foremost.{found_is_foremost, none_passes}
 use Rattle.pcef_model.specs.declared.command.Command.{Command}
 use Rattle.pcef_model.specs.Setting.{Setting, same_qos}
 use Rattle.pcef_model.specs.ActiveRules.{Active, is_named, put, without}
@@ -22,7 +22,7 @@ use Rattle.pcef_bearer.specs.Standing.{binding_of, bound_of}
 use Rattle.pcef_model.specs.Changes.{MakesActive}
 use Rattle.pcef_model.proofs.BearerIds.{IsBound, id_default, id_kept, id_new}
 use Rattle.pcef_model.proofs.Names.{put_filter}
-use Rattle.pcef_lists.proofs.Found.{any_from}
+use Rattle.pcef_base.proofs.Found.{any_from}
 use Rattle.pcef_model.proofs.Members.{filter_from, first_there, later_there, map_from}
 use Rattle.pcef_model.specs.Commands.{activated, takes_away}
 use Rattle.pcef_model.proofs.RulesAfter.{rules_left}

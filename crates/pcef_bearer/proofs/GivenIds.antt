@@ -7,16 +7,16 @@ use Rattle.std.proofs.lemmas.Bool.Decides.{Decides-eqb}
 use Rattle.std.proofs.lemmas.List.Elements.{All-filter, All-weaker, All-from_recursion}
 use Rattle.std.proofs.lemmas.List.Folds.{list_any_none}
 use Rattle.pcef_rule.specs.declared.quantity.Qos.{Qos}
-use Rattle.pcef_lists.proofs.Foremost.{none_passes}
+use Rattle.pcef_base.proofs.Foremost.{none_passes}
 use Rattle.pcef_model.specs.Setting.{same_qos}
-use Rattle.pcef_lists.proofs.Tests.{contrary}
+use Rattle.pcef_base.proofs.Tests.{contrary}
 use Rattle.pcef_model.proofs.Sameness.{same_qos_is, same_qos_of, same_qos_self, same_qos_sym}
 use Rattle.pcef_bearer.specs.declared.bearers.Bound.{Bound}
 use Rattle.pcef_bearer.specs.Bindings.{Agree, is_bound_as}
 use Rattle.pcef_bearer.specs.BindingSteps.{HasItsId, finds_no_id, id_excluding, id_or_new, without_bound}
 use Rattle.pcef_model.specs.Bearers.{default_id, has_pair, least_free, other_ids}
 use Rattle.pcef_model.proofs.Names.{any_at}
-use Rattle.pcef_lists.proofs.Found.{found_is, found_passes}
+use Rattle.pcef_base.proofs.Found.{found_is, found_passes}
 
 -- ---- rules agree with one another
 pub agree_self : (a : Bound) → Agree a a

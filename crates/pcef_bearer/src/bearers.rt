@@ -35,7 +35,7 @@ pub struct Bound {
 }
 
 /// Memory for rules that are bound later.
-pub type Places = pcef_lists::Places<Bound>;
+pub type Places = pcef_base::Places<Bound>;
 
 /// What is left of a rule that is no longer bound.
 #[derive(Clone, Copy, Debug, PartialEq, Eq)]

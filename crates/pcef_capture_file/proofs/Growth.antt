@@ -4,7 +4,7 @@ use Rattle.std.proofs.lemmas.Bool.{cases_lt, le-ltb, lt-ltb, le-leb}
 use Rattle.std.proofs.lemmas.List.{drop-append-le, take-append-le}
 use Rattle.byteorder.specs.Endian.{big_number, little_number}
 use Rattle.byteorder.specs.Numbers.{big_from-append, little_from-append}
-use Rattle.pcef_lists.specs.Readings.{◌>>=◌, or_fault}
+use Rattle.pcef_base.specs.Readings.{◌>>=◌, or_fault}
 use Rattle.pcef_capture_file.specs.Blocks.{Framed, begins_section, block_front, block_in, block_of, is_block_len, len_of, most_block, order_of, section_order, total_of}
 use Rattle.pcef_capture_file.specs.Captured.{Captured, packet_front}
 use Rattle.pcef_capture_file.specs.Classic.{most_packet, record_of, recorded_len, stated_in}

@@ -2,7 +2,7 @@
 use Rattle.std.proofs.Common.{◌≡◌, ◌≢◌, ◌<◌, ◌≤◌, ◌∙◌, ◌++◌, ◌⊎◌, inl, inr, ℕ, Bool, List, [], ◌∷◌, length, drop, true, false, Option, Some, None, Ok, Err, refl, sym, ap, subst, arith}
 use Rattle.std.proofs.lemmas.Bool.{le-ltb}
 use Rattle.std.proofs.lemmas.List.{drop-append-le}
-use Rattle.pcef_lists.specs.Readings.{◌>>=◌, or_fault}
+use Rattle.pcef_base.specs.Readings.{◌>>=◌, or_fault}
 use Rattle.pcef_capture_file.specs.Blocks.{Framed, begins_section, block_of, most_block}
 use Rattle.pcef_capture_file.specs.Captured.{Captured, Reads}
 use Rattle.pcef_capture_file.specs.Captures.{ReadsAs, ReadsClassic}

@@ -1,6 +1,6 @@
 -- Blocks of a pcapng file (draft-ietf-opsawg-pcapng, clauses 3.1 and 4.1).
 use Rattle.std.specs.Prelude.{ℕ, ◌-◌, ◌%◌, ◌==◌, ◌&&◌, nat_le, nat_lt, Bool, List, length, take, drop, Option, Some, None, Result, Ok, Err, if◌then◌else◌}
-use Rattle.pcef_lists.specs.Readings.{◌>>=◌, or_fault}
+use Rattle.pcef_base.specs.Readings.{◌>>=◌, or_fault}
 use Rattle.pcef_capture_file.specs.Numbers.{number_by}
 use Rattle.pcef_capture_file.specs.declared.blocks.Block.{Block}
 use Rattle.pcef_capture_file.specs.declared.endianness.Endianness.{Endianness}

@@ -1,6 +1,6 @@
 -- The savefile format of libpcap (pcap-savefile(5); draft-ietf-opsawg-pcap, clauses 4 and 5).
 use Rattle.std.specs.Prelude.{ℕ, ◌%◌, ◌^◌, ◌==◌, ◌&&◌, nat_lt, Bool, List, length, drop, Option, Some, None, Result, Ok, Err, if◌then◌else◌}
-use Rattle.pcef_lists.specs.Readings.{◌>>=◌, or_fault}
+use Rattle.pcef_base.specs.Readings.{◌>>=◌, or_fault}
 use Rattle.pcef_capture_file.specs.Captured.{Captured, packet_front}
 use Rattle.pcef_capture_file.specs.Links.{link_of}
 use Rattle.pcef_capture_file.specs.Numbers.{number_by}

@@ -1,7 +1,7 @@
 -- What it means that packets are those of a pcapng file (draft-ietf-opsawg-pcapng, clause 3).
 use Rattle.std.specs.Prelude.{◌≡◌, ◌<◌, ℕ, List, [], ◌∷◌, length, Option, Some, None, Result, Ok, Err}
 use Rattle.std.specs.List.{filter_map}
-use Rattle.pcef_lists.specs.Readings.{◌>>=◌}
+use Rattle.pcef_base.specs.Readings.{◌>>=◌}
 use Rattle.pcef_capture_file.specs.Blocks.{block_of, Framed}
 use Rattle.pcef_capture_file.specs.BlockPackets.{block_packet}
 use Rattle.pcef_capture_file.specs.Captured.{Captured}

@@ -1,6 +1,6 @@
 -- Sections of a pcapng file and their interfaces (draft-ietf-opsawg-pcapng, clauses 4.1 and 4.2).
 use Rattle.std.specs.Prelude.{ℕ, ◌==◌, ◌&&◌, ◌||◌, nat_lt, Bool, List, [], ◌∷◌, ◌++◌, drop, length, Result, Ok, Err, if◌then◌else◌}
-use Rattle.pcef_lists.specs.Readings.{◌>>=◌, or_fault}
+use Rattle.pcef_base.specs.Readings.{◌>>=◌, or_fault}
 use Rattle.pcef_capture_file.specs.Blocks.{Framed}
 use Rattle.pcef_capture_file.specs.Links.{link_of}
 use Rattle.pcef_capture_file.specs.Numbers.{number_by}

@@ -11,8 +11,8 @@ use Rattle.pcef_capture_script.specs.Turns.{WroteFrameFront, WroteSoFar, lines_i
 use Rattle.pcef_capture_script.specs.Writing.{WritesScriptFront, WritesTakes}
 use Rattle.pcef_capture_script.specs.declared.counts.Counts.{Counts}
 use Rattle.pcef_capture_script.specs.declared.turn.Turn.{Turn}
-use Rattle.pcef_writing.specs.Writing.{AppendsFront}
-use Rattle.pcef_writing.proofs.Fronts.{front_after, front_more}
+use Rattle.pcef_base.specs.Writing.{AppendsFront}
+use Rattle.pcef_base.proofs.Fronts.{front_after, front_more}
 use Rattle.pcef_capture_script.proofs.Fates.{fates_both, fates_there}
 use Rattle.pcef_capture_script.proofs.Writings.{frame_there, items_more, lines_both, lines_from}
 

@@ -15,7 +15,7 @@ use Rattle.pcef_capture_file.specs.declared.fault.CaptureFault.{CaptureFault}
 use Rattle.pcef_capture_file.specs.declared.stop.Stop.{Stop}
 use Rattle.pcef_capture_file.specs.declared.stop.Stop.TheVariants as stop
 use Rattle.pcef_capture_file.proofs.Totality.{reads_there}
-use Rattle.pcef_writing.specs.Writing.{AppendsFront}
+use Rattle.pcef_base.specs.Writing.{AppendsFront}
 use Rattle.pcef_capture_script.specs.Progress.{FailsInFront, FailsToRead, IsWrittenAfter, IsWriteEnd, Paused, Reached, WroteLinesFront}
 use Rattle.pcef_capture_script.specs.Scripts.{Rota}
 use Rattle.pcef_capture_script.specs.Streams.{WritesCapture, WroteCapture, WroteFrontOf, WroteSoMuch}

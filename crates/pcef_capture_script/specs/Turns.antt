@@ -7,7 +7,7 @@ use Rattle.pcef_capture_script.specs.Counting.{counts_of}
 use Rattle.pcef_capture_script.specs.Fates.{AreFates, Fate, IsFate, items_of, outcomes_of}
 use Rattle.pcef_capture_script.specs.Lines.{Item, flush_line, take_line}
 use Rattle.pcef_capture_script.specs.Scripts.{Rota, batch_of, take_lines, worker_of}
-use Rattle.pcef_writing.specs.Writing.{AppendsFront}
+use Rattle.pcef_base.specs.Writing.{AppendsFront}
 use Rattle.pcef_capture_script.specs.declared.counts.Counts.{Counts}
 use Rattle.pcef_capture_script.specs.declared.counts.Outcome.{Outcome}
 use Rattle.pcef_capture_script.specs.declared.turn.Turn.{Turn}

@@ -7,7 +7,7 @@ use Rattle.pcef_capture_script.specs.Counting.{counts_of}
 use Rattle.pcef_capture_script.specs.Fates.{AreFates, Fate, items_of, outcomes_of}
 use Rattle.pcef_capture_script.specs.Scripts.{Rota, take_lines, script_of}
 use Rattle.pcef_capture_script.specs.declared.counts.Counts.{Counts}
-use Rattle.pcef_writing.specs.Writing.{AppendsFront}
+use Rattle.pcef_base.specs.Writing.{AppendsFront}
 
 -- the script for the packets that have a line, in the order of the frames; and every frame is counted
 abbrev pub WritesTakes : Addr → Bool → Rota → List Captured → Option (List ℕ) → Option (List ℕ) → Counts → Type 0

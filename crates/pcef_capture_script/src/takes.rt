@@ -9,14 +9,14 @@ ghost use Rattle.pcef_capture_file.specs.Padding.{padded};
 ghost use Rattle.pcef_capture_script.specs.Fates.{filled_fate};
 ghost use Rattle.pcef_capture_script.specs.Lines.{dir_word, flush_line, take_line};
 ghost use Rattle.pcef_capture_script.specs.Turns.{flush_if, lines_at, rest_flush, taken_after, WroteFate, WroteFrame, WroteFrameFront};
-ghost use Rattle.pcef_writing.specs.Writing.{AppendsFront};
+ghost use Rattle.pcef_base.specs.Writing.{AppendsFront};
 
 use crate::counts::Outcome;
 use crate::plan::Plan;
 use crate::turn::Turn;
+use pcef_base::put_all;
 use pcef_capture_file::{Content, Packet, content_of, direction_of, padded};
 use pcef_packet::{Addr, Dir};
-use pcef_writing::put_all;
 use std::alloc::Global;
 use std::io::{self, Write};
 

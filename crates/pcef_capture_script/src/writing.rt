@@ -9,7 +9,7 @@ ghost use Rattle.pcef_capture_script.specs.Progress.{FailsInFront, FailsToRead, 
 ghost use Rattle.pcef_capture_script.specs.Scripts.{Rota};
 ghost use Rattle.pcef_capture_script.specs.Streams.{WritesCapture};
 ghost use Rattle.pcef_capture_script.specs.Turns.{WroteSoFar, rest_flush};
-ghost use Rattle.pcef_writing.specs.Writing.{AppendsFront};
+ghost use Rattle.pcef_base.specs.Writing.{AppendsFront};
 ghost use Rattle.pcef_capture_script.specs.Writing.{WritesScriptFront};
 
 use crate::counts::Counts;

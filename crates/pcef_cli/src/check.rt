@@ -18,10 +18,10 @@ use crate::command_line::{
 };
 use pcef_built_in::ShapedCatalog;
 use pcef_explain::read_text;
-use pcef_findings::{FindFault, Finding, find};
 use pcef_model::Profile;
 use pcef_output::Fused;
 use pcef_profile::{ReadProfileFault, explain, read_profile};
+use pcef_script::{FindFault, Finding, find};
 use std::fs;
 use std::io::{self, BufWriter, ErrorKind, Read, Write};
 

@@ -1,3 +1,7 @@
+pub mod Bearing
 pub mod Cores
+pub mod Deciding
 pub mod Keeping
+pub mod Places
+pub mod Reporting
 pub mod Sessions

@@ -9,9 +9,8 @@ use pcef_active::ActiveRules;
 use pcef_bearer::Bearers;
 use pcef_catalog::{Catalog, Offers};
 use pcef_index::Indexed;
-use pcef_journal::Journal;
+use pcef_journal::{Journal, LaneEnd};
 use pcef_journaled::{Commands, JournaledCommand, JournaledState, Lane};
-use pcef_lane::LaneEnd;
 use pcef_model::{
     Accepted, AttachFault, Command, FlushRefusal, OpenFault, Profile, Refusal, Verdicts,
 };

@@ -4,7 +4,7 @@ use Rattle.std.specs.Prelude.{◌==◌, ◌≢◌, nat_lt}
 use Rattle.std.proofs.lemmas.Bool.{cases_Bool}
 use Rattle.std.proofs.lemmas.Bool.Decides.{nat_tests}
 use Rattle.std.proofs.lemmas.List.{length-drop}
-use Rattle.pcef_lists.specs.Readings.{◌>>=◌}
+use Rattle.pcef_base.specs.Readings.{◌>>=◌}
 use Rattle.pcef_gtp.specs.Messages.{behind_extensions, behind_within, past}
 use Rattle.pcef_gtp.specs.Numbers.{octet_at}
 use Rattle.pcef_gtp.specs.declared.refusal.NotTunneled.{NotTunneled}

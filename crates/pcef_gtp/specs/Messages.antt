@@ -1,6 +1,6 @@
 -- The packet that a GTP-U message carries (3GPP TS 29.281, clauses 5.1, 5.2.1 and 6.1).
 use Rattle.std.specs.Prelude.{ℕ, zero, suc, ◌+◌, ◌-◌, ◌*◌, ◌/◌, ◌%◌, ◌==◌, nat_lt, List, length, drop, slice_range, Result, Ok, Err, if◌then◌else◌}
-use Rattle.pcef_lists.specs.Readings.{◌>>=◌}
+use Rattle.pcef_base.specs.Readings.{◌>>=◌}
 use Rattle.pcef_gtp.specs.Numbers.{number, octet_at}
 use Rattle.pcef_gtp.specs.declared.refusal.NotTunneled.{NotTunneled}
 use Rattle.pcef_gtp.specs.declared.refusal.NotTunneled.TheVariants as why

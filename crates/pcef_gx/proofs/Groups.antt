@@ -5,7 +5,7 @@ use Rattle.pcef_diameter.specs.declared.fault.AvpFault.{AvpFault}
 use Rattle.pcef_diameter.specs.declared.fault.AvpFault.TheVariants.{Cut}
 use Rattle.pcef_diameter.proofs.Readings.{empty_fault}
 use Rattle.pcef_diameter.proofs.Spelled.{behind_shorter}
-use Rattle.pcef_lists.specs.Readings.{◌>>=◌}
+use Rattle.pcef_base.specs.Readings.{◌>>=◌}
 use Rattle.pcef_gx.specs.Readings.{Fault, avps_within, before, code_in, blank_of, problem_of}
 
 -- what comes of AVPs and of the fault behind them

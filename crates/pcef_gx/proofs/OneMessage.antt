@@ -9,7 +9,7 @@ use Rattle.pcef_filter.specs.Reading.{reading_of}
 use Rattle.pcef_filter.proofs.FilterLaws.{fault_once, fault_or_filter, filter_again}
 use Rattle.pcef_line.specs.FilterReads.{FilterReading, IsExact, IsReadAs}
 use Rattle.pcef_line.proofs.LineLaws.{AreSame, reading_exact}
-use Rattle.pcef_lists.specs.Readings.{◌>>=◌, under}
+use Rattle.pcef_base.specs.Readings.{◌>>=◌, under}
 use Rattle.pcef_gx.specs.Codes.{charging_rule_base_name, charging_rule_definition, charging_rule_install, charging_rule_name, flow_description, flow_direction, flow_information, flow_status, has_code, monitoring_key, online, precedence, qos_information, session_release_cause}
 use Rattle.pcef_gx.specs.Definitions.{change_of, quality_where}
 use Rattle.pcef_gx.specs.Flows.{and_filter, failure_of_text, filter_by, filter_of, flow_in, flow_of, flows_after, says_more}

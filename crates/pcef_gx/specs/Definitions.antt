@@ -1,6 +1,6 @@
 -- Charging-Rule-Definition (TS 29.212, clause 5.3.4).
 use Rattle.std.specs.Prelude.{ℕ, ◌==◌, ◌||◌, List, [], Option, Some, None, option_map, Result, Ok, Err, if◌then◌else◌}
-use Rattle.pcef_lists.specs.Readings.{◌>>=◌, or_fault}
+use Rattle.pcef_base.specs.Readings.{◌>>=◌, or_fault}
 use Rattle.pcef_diameter.specs.Avps.{Shown}
 use Rattle.pcef_line.specs.FilterReads.{FilterReading}
 use Rattle.pcef_rule.specs.declared.gate.Gate.{Gate}

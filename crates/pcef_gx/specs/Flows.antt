@@ -2,7 +2,7 @@
 use Rattle.std.specs.Prelude.{ℕ, ◌==◌, ◌||◌, nat_eq, Bool, true, false, List, [], ◌∷◌, ◌++◌, codes, Option, Some, None, Result, Ok, Err, if◌then◌else◌}
 use Rattle.std.specs.Str.{is_utf8}
 use Rattle.std.specs.List.{starts_with}
-use Rattle.pcef_lists.specs.Readings.{◌>>=◌, under}
+use Rattle.pcef_base.specs.Readings.{◌>>=◌, under}
 use Rattle.pcef_diameter.specs.Avps.{Shown}
 use Rattle.pcef_filter.specs.declared.filter.Filter.{Filter}
 use Rattle.pcef_filter.specs.declared.filter.FilterFault.{FilterFault}

@@ -1,6 +1,6 @@
 -- Charging-Rule-Install and Charging-Rule-Remove (TS 29.212, clauses 5.3.2 and 5.3.3).
 use Rattle.std.specs.Prelude.{ℕ, ◌||◌, List, [], ◌∷◌, ◌++◌, Option, Some, None, unwrap_or, Result, Ok, Err, if◌then◌else◌}
-use Rattle.pcef_lists.specs.Readings.{◌>>=◌}
+use Rattle.pcef_base.specs.Readings.{◌>>=◌}
 use Rattle.pcef_diameter.specs.Avps.{Shown}
 use Rattle.pcef_line.specs.FilterReads.{FilterReading}
 use Rattle.pcef_gx.specs.Codes.{bearer_identifier, charging_rule_base_name, charging_rule_definition, charging_rule_install, charging_rule_name, charging_rule_remove, has_code, rule_activation_time, rule_deactivation_time}

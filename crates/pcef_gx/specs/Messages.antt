@@ -1,6 +1,6 @@
 -- What a RAR and a CCA ask of a session (TS 29.212, clauses 5.6.4 and 5.6.3).
 use Rattle.std.specs.Prelude.{◌≡◌, ℕ, Bool, true, List, [], ◌∷◌, ◌++◌, Option, Some, None, Result, Ok, Err}
-use Rattle.pcef_lists.specs.Readings.{◌>>=◌}
+use Rattle.pcef_base.specs.Readings.{◌>>=◌}
 use Rattle.pcef_diameter.specs.Avps.{Shown}
 use Rattle.pcef_line.specs.FilterReads.{FilterReading, IsExact}
 use Rattle.pcef_rule.specs.declared.quantity.Qos.{Qos}

@@ -1,6 +1,6 @@
 -- Usage-Monitoring-Information (TS 29.212, clauses 5.3.59, 5.3.60, 5.3.61, 5.3.62 and 5.3.63).
 use Rattle.std.specs.Prelude.{ℕ, ◌<◌, ◌==◌, nat_lt, Bool, true, false, List, [], ◌∷◌, ◌++◌, length, is_some, Option, Some, None, Result, Ok, Err, if◌then◌else◌}
-use Rattle.pcef_lists.specs.Readings.{◌>>=◌, or_fault, passing}
+use Rattle.pcef_base.specs.Readings.{◌>>=◌, or_fault, passing}
 use Rattle.pcef_diameter.specs.Avps.{Shown}
 use Rattle.pcef_model.specs.declared.level.Level.{Level}
 use Rattle.pcef_model.specs.declared.level.Level.TheVariants as level

@@ -2,7 +2,7 @@
 -- a session (own choice).
 use Rattle.std.specs.Prelude.{◌≡◌, ◌<◌, ◌^◌, ◌+◌, ◌-◌, ◌*◌, ◌/◌, ◌%◌, ◌==◌, ◌&&◌, not, ℕ, nat_lt, Bool, List, [], ◌∷◌, length, All, Option, Some, None, if◌then◌else◌}
 use Rattle.std.specs.List.{flat_map}
-use Rattle.pcef_lists.specs.Readings.{is_from_to}
+use Rattle.pcef_base.specs.Readings.{is_from_to}
 
 -- An octet from 0x21 to 0x7E stands for itself, but `%` doesn't.
 abbrev pub is_plain : ℕ → Bool

@@ -1,6 +1,6 @@
 -- QCI, ARP and guaranteed rates (TS 29.212, clauses 5.3.16, 5.3.32 and 5.3.48).
 use Rattle.std.specs.Prelude.{ℕ, ◌==◌, not, Bool, true, false, ◌||◌, List, Option, Some, None, option_map, unwrap_or, Result, Ok, Err, if◌then◌else◌}
-use Rattle.pcef_lists.specs.Readings.{◌>>=◌, or_fault}
+use Rattle.pcef_base.specs.Readings.{◌>>=◌, or_fault}
 use Rattle.pcef_diameter.specs.Avps.{Shown}
 use Rattle.pcef_rule.specs.Priority.{Priority}
 use Rattle.pcef_rule.specs.declared.quantity.Qos.{Qos}

@@ -1,7 +1,7 @@
 -- What is read of AVPs, or the first fault: what is wrong, and the AVP that the Failed-AVP shows.
 use Rattle.std.specs.Prelude.{◌≡◌, ◌==◌, ◌&&◌, ◌||◌, not, ℕ, nat_lt, zero, suc, Bool, true, false, List, [], ◌∷◌, length, replicate, Option, Some, None, Result, Ok, Err, if◌then◌else◌}
 use Rattle.std.specs.List.{find, list_any}
-use Rattle.pcef_lists.specs.Readings.{◌>>=◌, is_from_to, or_fault, passing}
+use Rattle.pcef_base.specs.Readings.{◌>>=◌, is_from_to, or_fault, passing}
 use Rattle.pcef_diameter.specs.Avps.{Shown, avp_at, avp_fault, behind_avp, flags_at, has_vendor, shown}
 use Rattle.pcef_diameter.specs.Numbers.{unsigned32_of, unsigned64_of, word_at}
 use Rattle.pcef_diameter.specs.declared.fault.AvpFault.{AvpFault}

@@ -1,7 +1,7 @@
 -- Event triggers (TS 29.212, clause 5.3.7).
 use Rattle.std.specs.Prelude.{ℕ, ◌&&◌, not, Bool, List, [], ◌∷◌, ◌++◌, Result, Ok, if◌then◌else◌}
 use Rattle.std.specs.List.{filter}
-use Rattle.pcef_lists.specs.Readings.{◌>>=◌, is_from_to, passing}
+use Rattle.pcef_base.specs.Readings.{◌>>=◌, is_from_to, passing}
 use Rattle.pcef_diameter.specs.Avps.{Shown}
 use Rattle.pcef_gx.specs.Codes.{event_trigger, has_code}
 use Rattle.pcef_gx.specs.Known.{is_one_of}

@@ -8,7 +8,7 @@ use Rattle.pcef_gx.specs.Messages.{Asked, CcaOf, asked}
 use Rattle.pcef_gx.specs.Readings.{Fault}
 use Rattle.pcef_gx.specs.declared.order.Orders.{Orders}
 use Rattle.pcef_gx_messages.specs.Identities.{Speaker}
-use Rattle.pcef_lists.specs.Readings.{◌>>=◌, under}
+use Rattle.pcef_base.specs.Readings.{◌>>=◌, under}
 use Rattle.pcef_gx_dialogue.specs.Ccas.{AvpsDue, CcaDue, DropsAs, Dropped, Hears, SaidBy, Saying, SaysSo, at_fault, cca_due, failed, failure_of, granted, heard_due, is_success, said, saying_of}
 use Rattle.pcef_gx_dialogue.specs.Ccrs.{Out}
 use Rattle.pcef_gx_dialogue.specs.declared.cca.CcaDrop.{CcaDrop}

@@ -9,7 +9,7 @@ use Rattle.pcef_gx.specs.Readings.{Fault}
 use Rattle.pcef_gx.specs.declared.order.Orders.{Orders}
 use Rattle.pcef_gx_messages.specs.Identities.{Speaker}
 use Rattle.pcef_gx_messages.specs.Sent.{Told, told_of}
-use Rattle.pcef_lists.specs.Readings.{◌>>=◌, under}
+use Rattle.pcef_base.specs.Readings.{◌>>=◌, under}
 use Rattle.pcef_gx_dialogue.specs.Requests.{RequestDue, Tells, TellsHalt, addressed_avps, request_due, told_fault}
 use Rattle.pcef_gx_dialogue.specs.declared.halt.Halt.{Halt}
 use Rattle.pcef_gx_dialogue.specs.declared.halt.Halt.TheVariants as halt

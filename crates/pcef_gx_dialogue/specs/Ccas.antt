@@ -14,7 +14,7 @@ use Rattle.pcef_gx.specs.declared.fault.Stop.{Stop}
 use Rattle.pcef_gx.specs.declared.fault.Stop.TheVariants as stop
 use Rattle.pcef_gx_messages.specs.Identities.{Speaker}
 use Rattle.pcef_line.specs.FilterReads.{FilterReading, IsExact}
-use Rattle.pcef_lists.specs.Readings.{◌>>=◌, or_fault, under}
+use Rattle.pcef_base.specs.Readings.{◌>>=◌, or_fault, under}
 use Rattle.pcef_gx_dialogue.specs.Ccrs.{Out, is_answer}
 use Rattle.pcef_gx_dialogue.specs.Requests.{gx, most_message, of_session}
 use Rattle.pcef_gx_dialogue.specs.declared.cca.CcaDrop.{CcaDrop}

@@ -16,7 +16,7 @@ use Rattle.pcef_gx.specs.declared.fault.Stop.TheVariants as stop
 use Rattle.pcef_gx_messages.specs.Identities.{Speaker}
 use Rattle.pcef_gx_messages.specs.Sent.{Told, application_unsupported, at_fault, command_unsupported, header_bits, length_wrong, told_of, unknown_session, version}
 use Rattle.pcef_line.specs.FilterReads.{FilterReading, IsExact}
-use Rattle.pcef_lists.specs.Readings.{◌>>=◌, under}
+use Rattle.pcef_base.specs.Readings.{◌>>=◌, under}
 use Rattle.pcef_gx_dialogue.specs.declared.halt.Halt.{Halt}
 use Rattle.pcef_gx_dialogue.specs.declared.halt.Halt.TheVariants as halt
 

@@ -4,7 +4,7 @@ ghost use Rattle.std.specs.Prelude.{◌≡◌, ◌≤◌, IfOk, length, map, opt
 ghost use Rattle.pcef_diameter.specs.Avps.{shown};
 ghost use Rattle.pcef_gx.specs.Messages.{Asked, RarOf, asked};
 ghost use Rattle.pcef_gx.specs.Readings.{Fault, required_of};
-ghost use Rattle.pcef_lists.specs.Readings.{under};
+ghost use Rattle.pcef_base.specs.Readings.{under};
 ghost use Rattle.pcef_gx_messages.specs.Sent.{Told, told_of};
 ghost use Rattle.pcef_gx_dialogue.specs.Requests.{RequestDue, Tells, addressed_avps, addressed_to, avps_in, command_told, data_in, header_told, of_gx, refused_first, told_fault};
 

@@ -4,7 +4,7 @@ ghost use Rattle.std.specs.Prelude.{◌≡◌, ◌≤◌, IfOk, Ok, Result, drop
 ghost use Rattle.pcef_diameter.specs.Avps.{shown};
 ghost use Rattle.pcef_gx.specs.Messages.{Asked, CcaOf, asked};
 ghost use Rattle.pcef_gx.specs.Readings.{Fault, group_of, required_of};
-ghost use Rattle.pcef_lists.specs.Readings.{under};
+ghost use Rattle.pcef_base.specs.Readings.{under};
 ghost use Rattle.pcef_gx_dialogue.specs.Ccas.{AvpsDue, CcaDue, Dropped, DropsStop, Hears, Saying, answers_out, at_fault, SaysSo, code_due, code_told, failure_by, failure_of, heard_avps, heard_due, is_cca, is_success, number_in, saying_of};
 ghost use Rattle.pcef_gx_dialogue.specs.declared.cca.CcaDrop.TheVariants.{NoMemory};
 

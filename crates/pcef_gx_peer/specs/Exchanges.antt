@@ -1,7 +1,7 @@
 -- The capabilities exchange (RFC 6733, clause 5.3).
 use Rattle.std.specs.Prelude.{ℕ, ◌==◌, ◌++◌, true, false, List, [], ◌∷◌, Option, Some, None, Result, Ok, Err, codes, option_and_then, if◌then◌else◌}
 use Rattle.std.specs.Int.{w32, w128, to_be_bytes}
-use Rattle.pcef_lists.specs.Readings.{◌>>=◌}
+use Rattle.pcef_base.specs.Readings.{◌>>=◌}
 use Rattle.pcef_packet.specs.declared.header.Addr.{Addr}
 use Rattle.pcef_packet.specs.declared.header.Addr.TheVariants.{V4, V6}
 use Rattle.pcef_diameter.specs.Avps.{Shown}

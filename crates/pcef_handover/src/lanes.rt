@@ -6,8 +6,8 @@ ghost use Rattle.pcef_model.specs.Journals.{lane_len};
 ghost use Rattle.pcef_model.specs.Lawful.{newest_generation};
 ghost use Rattle.pcef_handover.specs.Lanes.{continues, is_next};
 
+use pcef_journal::LaneEnd;
 use pcef_journaled::JournaledState;
-use pcef_lane::LaneEnd;
 use pcef_model::Row;
 use pcef_session::Item;
 

@@ -7,7 +7,7 @@ use Rattle.std.proofs.lemmas.Bool.{cases_Bool, cases_eq, cond-true, cond-false}
 use Rattle.std.proofs.Math.ListN.{drop_of_length-le}
 use Rattle.std.proofs.lemmas.Option.{slice_get_past}
 use Rattle.std.proofs.lemmas.Nat.Bits.{bit_at_clear_other, bit_at-trailing_zeros, bit_at-zero}
-use Rattle.pcef_lists.proofs.Tests.{contrary}
+use Rattle.pcef_base.proofs.Tests.{contrary}
 use Rattle.std.specs.Prelude.{option_and_then}
 use Rattle.pcef_index.specs.declared.lines.Line.{Line}
 use Rattle.pcef_index.specs.private.Words.{AreSieved, FailTo, IsFirstIn, first_of, fits_at, passes_at, place_at}

@@ -1,0 +1,2 @@
+pub mod LaneEnds
+pub mod Present

@@ -1,2 +1,3 @@
 pub mod JournalView
 pub mod KeptJournal
+pub mod Lanes

@@ -3,8 +3,8 @@
 ghost use Rattle.std.specs.Prelude.{◌≡◌, ◌<◌, ◌≤◌, ◌+◌, [], ◌∷◌, drop, length, reverse, IsOk, OnOk};
 ghost use Rattle.pcef_model.specs.Entries.{commands, reports, rows};
 
+use crate::history::History;
 use crate::walk::Reports;
-use pcef_history::History;
 use pcef_model::{Entry, Report, Row};
 use std::alloc::{AllocError, Global};
 use std::marker::Model;

@@ -4,7 +4,7 @@ ghost use Rattle.std.specs.Prelude.{◌≡◌, ◌<◌, ◌≤◌, ◌+◌, ◌=
 
 use crate::store::Store;
 use crate::walk::{Commands, Lane};
-use pcef_history::History;
+use pcef_journal::History;
 use pcef_model::{Command, Row};
 use std::alloc::{AllocError, Global};
 use std::marker::Model;

@@ -12,7 +12,7 @@ use Rattle.pcef_packet.specs.declared.header.Dir.TheVariants.{Up, Down}
 use Rattle.pcef_packet.specs.declared.header.Header.{Header}
 use Rattle.pcef_packet.specs.declared.header.PacketFault.{PacketFault}
 use Rattle.pcef_packet.specs.HeaderOf.{header_of}
-use Rattle.pcef_lists.specs.Readings.{◌>>=◌, under}
+use Rattle.pcef_base.specs.Readings.{◌>>=◌, under}
 use Rattle.pcef_line.specs.declared.fault.LineFault.{LineFault}
 use Rattle.pcef_line.specs.declared.fault.LineFault.TheVariants.{BadPacket}
 use Rattle.pcef_line.specs.declared.field.Field.TheVariants as field

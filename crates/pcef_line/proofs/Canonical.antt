@@ -24,7 +24,7 @@ use Rattle.pcef_packet.specs.declared.header.Dir.TheVariants.{Up, Down}
 use Rattle.pcef_packet.specs.declared.header.Header.{Header}
 use Rattle.pcef_packet.specs.HeaderOf.{header_of}
 use Rattle.pcef_filter.specs.Reading.{reading_of}
-use Rattle.pcef_lists.specs.Readings.{◌>>=◌, under}
+use Rattle.pcef_base.specs.Readings.{◌>>=◌, under}
 use Rattle.pcef_line.specs.declared.fault.LineFault.TheVariants.{BadHex, BadPacket}
 use Rattle.pcef_line.specs.declared.field.Field.TheVariants as field
 use Rattle.pcef_line.specs.declared.line.Line.TheVariants.{Step}

@@ -6,8 +6,8 @@ use Rattle.pcef_filter.specs.declared.filter.Filter.{Filter}
 use Rattle.pcef_filter.specs.Reading.{reading_of}
 use Rattle.pcef_line.specs.declared.fault.LineFault.{LineFault}
 use Rattle.pcef_line.specs.LineRules.{filter_at, filters_of}
-use Rattle.pcef_lists.specs.Readings.{◌>>=◌}
-use Rattle.pcef_lists.proofs.ListReadings.{each}
+use Rattle.pcef_base.specs.Readings.{◌>>=◌}
+use Rattle.pcef_base.proofs.ListReadings.{each}
 
 abbrev pub filter : Value → Result Filter LineFault
 filter v = filter_at reading_of (view v)

@@ -19,7 +19,7 @@ use Rattle.pcef_line.specs.LineRules.{filter_at, filters_of, filters_at, flow_at
 use Rattle.pcef_line.specs.LineOf.{LineOf, fields_at, line_at, line_by, of_command, word_at}
 use Rattle.pcef_line.specs.LineShape.{is_known}
 use Rattle.pcef_line.specs.LineValues.{list_at, object_at, text_at}
-use Rattle.pcef_lists.specs.Readings.{◌>>=◌, or_fault, passing, under}
+use Rattle.pcef_base.specs.Readings.{◌>>=◌, or_fault, passing, under}
 
 -- ---- readings of filters
 -- the reader's own reading is one

@@ -7,7 +7,7 @@ use Rattle.std.proofs.lemmas.Bool.Decides.{Decides-and, Decides-like, Decides-by
 use Rattle.pcef_rule.specs.Name.{IsName, IsVisible}
 use Rattle.pcef_line.specs.declared.fault.LineFault.{LineFault}
 use Rattle.pcef_line.specs.LineValues.{is_visible, is_name}
-use Rattle.pcef_lists.specs.Readings.{is_from_to, passing}
+use Rattle.pcef_base.specs.Readings.{is_from_to, passing}
 
 decides_range : (least most n : ℕ) → Decides (is_from_to least most n) ((least ≤ n) × (n ≤ most))
 decides_range least most n = (λ e. (grind (arith, nat_tests), grind (arith, nat_tests)), λ h. let low = h.0 in let high = h.1 in grind (arith, nat_tests))

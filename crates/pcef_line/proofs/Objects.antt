@@ -9,7 +9,7 @@ use Rattle.serde_json.specs.View.{view, items_view, members_view}
 use Rattle.pcef_line.specs.declared.field.Field.{Field}
 use Rattle.pcef_line.specs.LineWords.{field_text}
 use Rattle.pcef_line.specs.LineShape.{each_item, members_known, some_item}
-use Rattle.pcef_lists.specs.Readings.{names_one_of}
+use Rattle.pcef_base.specs.Readings.{names_one_of}
 
 pub all_members : (fields : List Field) (members : List (String Global × Value)) → list_all (λ key. names_one_of field_text fields (string_bytes key)) (map (λ m. m.0) members) ≡ members_known fields (members_view members)
 all_members fields [] = refl

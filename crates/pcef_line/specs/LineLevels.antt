@@ -10,7 +10,7 @@ use Rattle.pcef_line.specs.declared.fault.LineFault.TheVariants.{BadField}
 use Rattle.pcef_line.specs.declared.field.Field.TheVariants as field
 use Rattle.pcef_line.specs.LineWords.{field_text}
 use Rattle.pcef_line.specs.LineValues.{text_at}
-use Rattle.pcef_lists.specs.Readings.{◌>>=◌, or_fault}
+use Rattle.pcef_base.specs.Readings.{◌>>=◌, or_fault}
 
 -- TS 29.212, clause 5.3.61, Usage-Monitoring-Level
 abbrev pub level_of : List ℕ → Option Level

@@ -20,7 +20,7 @@ use Rattle.pcef_line.specs.LineValues.{number_at, name_at, object_at, dir_at, pa
 use Rattle.pcef_line.specs.LineRules.{rule_at}
 use Rattle.pcef_line.specs.LineLevels.{level_at}
 use Rattle.pcef_line.specs.LineTriggers.{event_at, triggers_at}
-use Rattle.pcef_lists.specs.Readings.{◌>>=◌, or_fault, passing}
+use Rattle.pcef_base.specs.Readings.{◌>>=◌, or_fault, passing}
 
 unfoldable pub word_at : Data → Result Word LineFault
 word_at d = or_fault UnknownDo (option_and_then word_of (option_and_then as_str (get (field_text field.Do) d)))

@@ -19,7 +19,7 @@ use Rattle.pcef_line.specs.declared.fault.LineFault.TheVariants.{BadField, BadFi
 use Rattle.pcef_line.specs.declared.field.Field.TheVariants as field
 use Rattle.pcef_line.specs.LineWords.{field_text}
 use Rattle.pcef_line.specs.LineValues.{text_at, number_at, flag_at, name_at, object_at, list_at}
-use Rattle.pcef_lists.specs.Readings.{◌>>=◌, or_fault, passing, under}
+use Rattle.pcef_base.specs.Readings.{◌>>=◌, or_fault, passing, under}
 
 -- a field that may be absent; `null` isn't absent
 abbrev pub optional : {A : Type 0} → (Data → Result A LineFault) → Data → Option Data → Result (Option A) LineFault

@@ -7,7 +7,7 @@ use Rattle.pcef_line.specs.declared.field.Field.TheVariants as field
 use Rattle.pcef_line.specs.declared.word.Word.{Word}
 use Rattle.pcef_line.specs.declared.word.Word.TheVariants as word
 use Rattle.pcef_line.specs.LineWords.{field_text, fields_of, fields_of_rule, fields_of_filter, fields_of_arp, fields_of_gbr}
-use Rattle.pcef_lists.specs.Readings.{if_there, names_one_of}
+use Rattle.pcef_base.specs.Readings.{if_there, names_one_of}
 
 -- a test of each item of a list, and of some
 abbrev pub each_item : (Data → Bool) → Items → Bool

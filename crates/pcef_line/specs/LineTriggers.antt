@@ -15,7 +15,7 @@ use Rattle.pcef_line.specs.declared.trigger.Trigger.{Trigger}
 use Rattle.pcef_line.specs.declared.trigger.Trigger.TheVariants.{NoEventTriggers, UsageReport, Access}
 use Rattle.pcef_line.specs.LineShape.{each_item, some_item}
 use Rattle.pcef_line.specs.LineValues.{text_at, list_at}
-use Rattle.pcef_lists.specs.Readings.{◌>>=◌, or_fault, passing}
+use Rattle.pcef_base.specs.Readings.{◌>>=◌, or_fault, passing}
 
 -- ---- words
 abbrev pub event_text : AccessKind → List ℕ

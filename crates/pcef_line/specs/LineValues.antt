@@ -14,7 +14,7 @@ use Rattle.pcef_line.specs.declared.fault.LineFault.{LineFault}
 use Rattle.pcef_line.specs.declared.fault.LineFault.TheVariants.{MissingField, BadField, BadName, BadHex, BadPacket, NoMemory}
 use Rattle.pcef_line.specs.declared.field.Field.{Field}
 use Rattle.pcef_line.specs.LineWords.{field_text}
-use Rattle.pcef_lists.specs.Readings.{◌>>=◌, or_fault, passing, under, is_from_to, GivesUnless}
+use Rattle.pcef_base.specs.Readings.{◌>>=◌, or_fault, passing, under, is_from_to, GivesUnless}
 
 -- what a reader of lines answers is what is due, unless memory ran out
 abbrev pub Gives : {X Y : Type 0} → (X → Y) → Result X LineFault → Result Y LineFault → Type 0

@@ -17,7 +17,7 @@ use Rattle.pcef_line.specs.declared.line.Line.TheVariants.{Step}
 use Rattle.pcef_model.specs.declared.step.Step.TheVariants as step
 use Rattle.pcef_line.specs.LineValues.{dir_of}
 use Rattle.pcef_line.specs.declared.short.Fields.{Fields}
-use Rattle.pcef_lists.specs.Readings.{◌>>=◌, or_fault, under}
+use Rattle.pcef_base.specs.Readings.{◌>>=◌, or_fault, under}
 
 -- the value that a list of tokens is
 abbrev pub read_tokens : List Token → Option Data

@@ -2,7 +2,7 @@
 
 ghost use Rattle.std.specs.Prelude.{◌≡◌};
 ghost use Rattle.serde_json.specs.View.{view, items_view, members_view};
-ghost use Rattle.pcef_lists.specs.Readings.{names_one_of};
+ghost use Rattle.pcef_base.specs.Readings.{names_one_of};
 ghost use Rattle.pcef_line.specs.LineWords.{field_text};
 ghost use Rattle.pcef_line.specs.LineShape.{members_known, has_only, items_have_only, each_has_only, rule_is_known, inner_is_known, is_known};
 

@@ -4,7 +4,7 @@ ghost use Rattle.std.specs.Prelude.{◌≡◌, ◌≤◌, IfOk};
 ghost use Rattle.serde_json.specs.View.{view, items_view};
 ghost use Rattle.hex.specs.Hex.{decode_of};
 ghost use Rattle.pcef_line.specs.declared.fault.LineFault.TheVariants.{BadField, BadHex, BadName};
-ghost use Rattle.pcef_lists.specs.Readings.{or_fault, passing, under};
+ghost use Rattle.pcef_base.specs.Readings.{or_fault, passing, under};
 ghost use Rattle.pcef_line.specs.ShortLines.{packet_of};
 ghost use Rattle.pcef_line.specs.LineValues.{Gives, member_at, object_at, list_at, text_at, number_at, flag_at, is_name, name_at, dir_of, dir_at, packet_at};
 

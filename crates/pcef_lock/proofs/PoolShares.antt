@@ -15,8 +15,8 @@ use Rattle.pcef_session.specs.SessionModel.{SessionModel}
 use Rattle.pcef_session.specs.Preparing.{IsPreparedFor, command_of}
 use Rattle.pcef_session.specs.declared.prepared.Prepared.{Prepared}
 use Rattle.pcef_session.proofs.RoomRates.{settled_fits}
-use Rattle.pcef_pool.specs.Pools.{IsPart, IsPool, PoolModel, pool_faults, pool_with, rates_due, room_beside}
-use Rattle.pcef_pool.proofs.Within.{held_fits, pool_gives}
+use Rattle.pcef_share.specs.Pools.{IsPart, IsPool, PoolModel, pool_faults, pool_with, rates_due, room_beside}
+use Rattle.pcef_share.proofs.Within.{held_fits, pool_gives}
 
 -- ---- the share stays as its session goes on
 pub due_same : (b : Bool) (p q : Setting) (j k : Journal) (r : Option Sums) → q ≡ p → tables k ≡ tables j → r ≡ rates_due b p j → r ≡ rates_due b q k

@@ -7,7 +7,7 @@ use Rattle.pcef_model.specs.Setting.{Setting}
 use Rattle.pcef_model.specs.Entries.{Journal, commands, lane, rows}
 use Rattle.pcef_model.specs.Journals.{attach_count, counted, reported, slots, unreported}
 use Rattle.pcef_journaled.specs.Archiving.{Archives}
-use Rattle.pcef_pool.specs.Pools.{rates_due}
+use Rattle.pcef_share.specs.Pools.{rates_due}
 use Rattle.pcef_session.specs.declared.batch.Item.{Item}
 use Rattle.pcef_session.specs.Following.{row_of}
 use Rattle.pcef_lock.specs.declared.gathering.GatherFault.{GatherFault}

@@ -2,7 +2,7 @@
 
 ghost use Rattle.std.specs.Prelude.{◌≡◌, ◌<◌, ◌≤◌, ◌+◌, ◌^◌, ◌++◌, ◌∷◌, [], IfSome, IsOk, OnOk, false, is_some, length, true};
 
-use pcef_history::History;
+use pcef_journal::History;
 use pcef_session::Item;
 use std::alloc::{AllocError, Global};
 use std::marker::Model;

@@ -3,12 +3,11 @@
 ghost use Rattle.std.specs.Prelude.{◌≡◌, ◌≤◌, ◌<◌, ◌↔◌, IfOk, IfErr, IfSome, IsOk, length};
 ghost use Rattle.pcef_share.specs.Names.{ledger_at};
 ghost use Rattle.pcef_share.specs.Rates.{no_rates, sum_of_rates};
-ghost use Rattle.pcef_pool.specs.Pools.{GrantsExactly};
-ghost use Rattle.pcef_pool.specs.declared.pool_state.PoolFault.TheVariants.{OutOfRange};
+ghost use Rattle.pcef_share.specs.Pools.{GrantsExactly};
+ghost use Rattle.pcef_share.specs.declared.pool_state.PoolFault.TheVariants.{OutOfRange};
 
-use pcef_pool::{PoolFault, PoolState};
 use pcef_rule::Sums;
-use pcef_share::{Pooling, RateBlanks, RateShares, SharesOut};
+use pcef_share::{PoolFault, PoolState, Pooling, RateBlanks, RateShares, SharesOut};
 use std::sync::{Mutex, Wait};
 
 /// A pool of guaranteed rates that sessions of several threads share. Its lock is taken inside the hold of a session's

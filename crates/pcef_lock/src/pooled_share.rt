@@ -2,11 +2,10 @@
 
 ghost use Rattle.std.specs.Prelude.{◌≡◌, IfSome, None, Some, is_some, true};
 ghost use Rattle.pcef_model.specs.Refusals.{first_of};
-ghost use Rattle.pcef_pool.specs.Pools.{IsPart, IsPool, pool_faults, pool_with, room_beside};
+ghost use Rattle.pcef_share.specs.Pools.{IsPart, IsPool, pool_faults, pool_with, room_beside};
 
-use pcef_pool::PoolState;
 use pcef_rule::Sums;
-use pcef_share::{Pooling, RateShares};
+use pcef_share::{PoolState, Pooling, RateShares};
 
 /// The rates of a share in bit/s, if there is one.
 pub(crate) fn held_in<P: Pooling>(shares: &Option<RateShares<P>>) -> Option<Sums>

@@ -11,7 +11,7 @@ ghost use Rattle.pcef_lock.specs.Outcomes.{AnswersSeat, with_share};
 ghost use Rattle.pcef_handover.specs.Counting.{books_with_command, with_command};
 ghost use Rattle.pcef_lock.specs.Desks.{desk_shares, first_books};
 ghost use Rattle.pcef_lock.specs.Kept.{HoldFinds, Kept};
-ghost use Rattle.pcef_pool.specs.Pools.{IsPart, pool_with, rates_due, room_beside};
+ghost use Rattle.pcef_share.specs.Pools.{IsPart, pool_with, rates_due, room_beside};
 ghost use Rattle.pcef_lock.specs.Published.{ArePublished};
 ghost use Rattle.pcef_lock.specs.Seats.{ChangesOnlySubscriber, HasSeenAll, IsNewSeat};
 ghost use mathlib.Core.List.{IsPrefix};
@@ -23,10 +23,9 @@ use pcef_core::{SessionParts, session_is_exact};
 use pcef_journaled::JournaledState;
 use pcef_model::{Accepted, AttachFault, Command, Refusal};
 use pcef_packet::Addr;
-use pcef_pool::PoolState;
 use pcef_publish::{Board, Cell, Publisher, Subscriber};
 use pcef_rule::Sums;
-use pcef_share::{Blanks, Books, Naming, NoPool, Pooling, RateShares, Shares};
+use pcef_share::{Blanks, Books, Naming, NoPool, PoolState, Pooling, RateShares, Shares};
 use std::alloc::{AllocError, Global};
 use std::marker::Model;
 
@@ -65,7 +64,7 @@ impl<N: Naming, W: Board<Cell<N>> + Drop, P: Pooling> Drop for State<N, W, P> {
 
 impl<N: Naming, W: Board<Cell<N>> + Drop, P: Pooling> Model for State<N, W, P> {
     ghost use Rattle.std.specs.Prelude.{length, ◌≡◌};
-    ghost use Rattle.pcef_pool.specs.Pools.{rates_due};
+    ghost use Rattle.pcef_share.specs.Pools.{rates_due};
     ghost use Rattle.pcef_lock.specs.Locked.{Locked};
     ghost use Rattle.pcef_lock.specs.private.Soundness.{IsSound};
 

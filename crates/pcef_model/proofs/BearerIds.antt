@@ -12,7 +12,7 @@ use Rattle.pcef_model.specs.declared.entry.Entry.TheVariants as entry
 use Rattle.pcef_model.specs.declared.row.Row.{Row}
 use Rattle.pcef_model.specs.declared.pending_report.PendingReport.{PendingReport}
 use Rattle.pcef_model.specs.Bearers.{default_id, least_free, other_ids}
-use Rattle.pcef_lists.proofs.Found.{found_is, found_passes}
+use Rattle.pcef_base.proofs.Found.{found_is, found_passes}
 use Rattle.pcef_model.specs.Setting.{Setting, same_qos}
 use Rattle.pcef_model.specs.ActiveRules.{Active, is_named, put, without}
 use Rattle.pcef_model.specs.Generations.{Generation, at_first as before_all, free_id, has_bearer, id_after, kept, made_by, next, rules_after, stays}
@@ -23,7 +23,7 @@ use Rattle.pcef_model.specs.Commands.{is_table}
 use Rattle.pcef_model.specs.Journals.{now}
 use Rattle.pcef_model.specs.Reports.{after_command, after_flush, with_reports, thresholds, with_rows}
 use Rattle.pcef_model.proofs.Growth.{now_after_table, tables_of_other}
-use Rattle.pcef_lists.proofs.Tests.{contrary}
+use Rattle.pcef_base.proofs.Tests.{contrary}
 use Rattle.pcef_model.proofs.Sameness.{same_qos_is, same_qos_self}
 use Rattle.pcef_model.specs.Outcomes.{changes}
 use Rattle.pcef_model.specs.Lawful.{Lawful, at_first, by_attach, by_command, by_flush, by_leave}

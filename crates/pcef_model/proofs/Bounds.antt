@@ -17,7 +17,7 @@ use Rattle.pcef_model.specs.Commands.{is_among, switched}
 use Rattle.pcef_model.specs.Entries.{Journal}
 use Rattle.pcef_model.specs.Journals.{now, slots, subscribed, unreported}
 use Rattle.pcef_model.specs.Reports.{requested, keys_ended, in_order, inactive, insert_name, is_reached, is_subscribed, noticed, plan, thresholds}
-use Rattle.pcef_lists.proofs.Keeping.{filter_length}
+use Rattle.pcef_base.proofs.Keeping.{filter_length}
 
 -- ---- rules that become inactive
 length-insert_name : (n : List ℕ) (ns : List (List ℕ)) → length (insert_name n ns) ≡ suc (length ns)

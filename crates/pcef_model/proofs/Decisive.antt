@@ -12,11 +12,11 @@ use Rattle.pcef_model.specs.Setting.{Setting, same_name}
 use Rattle.pcef_model.specs.Generations.{Generation, made_by, rules_after, stays}
 use Rattle.pcef_model.proofs.RulesAfter.{rule_change, rules_left, rules_put}
 use Rattle.pcef_model.specs.ActiveRules.{Active, decisive, fits, goes_ahead_of, is_before, is_decisive, is_named, rank_of}
-use Rattle.pcef_lists.proofs.Tests.{contrary}
+use Rattle.pcef_base.proofs.Tests.{contrary}
 use Rattle.pcef_model.proofs.Sameness.{same_name_is, same_name_of}
 use Rattle.pcef_model.proofs.BoundRules.{NamesOnce}
 use Rattle.pcef_model.proofs.Names.{Once, filter_once, put_once}
-use Rattle.pcef_lists.proofs.Found.{all_at, any_from}
+use Rattle.pcef_base.proofs.Found.{all_at, any_from}
 
 -- ---- names
 -- in a list with each name once, two rules of one name are one

@@ -5,10 +5,10 @@ use Rattle.std.specs.List.{list_any}
 use Rattle.std.proofs.lemmas.Bool.{cases_Bool}
 use Rattle.pcef_model.proofs.Names.{Once}
 use Rattle.pcef_model.specs.ActiveRules.{Active, is_named, put}
-use Rattle.pcef_lists.proofs.Tests.{contrary}
+use Rattle.pcef_base.proofs.Tests.{contrary}
 use Rattle.pcef_model.proofs.Sameness.{same_name_is, same_name_of}
 use Rattle.pcef_model.proofs.BoundRules.{NamesOnce}
-use Rattle.pcef_lists.proofs.Found.{any_from}
+use Rattle.pcef_base.proofs.Found.{any_from}
 
 pub first_there : {X : Type 0} (x : X) (xs : List X) → Contains (x ∷ xs) x
 first_there x xs = (0, omega arith, refl)

@@ -6,7 +6,7 @@ use Rattle.std.proofs.lemmas.Bool.{cases_Bool, or_cases, or_left, or_right, or_p
 use Rattle.std.proofs.lemmas.List.Elements.{All-cons, All-head, All-nil, All-tail}
 use Rattle.std.proofs.lemmas.List.Folds.{list_any_at, list_any_none}
 use Rattle.std.proofs.lemmas.List.Kept.{AllPairs-cons}
-use Rattle.pcef_lists.proofs.Tests.{contrary}
+use Rattle.pcef_base.proofs.Tests.{contrary}
 use Rattle.pcef_model.proofs.Sameness.{same_name_is, same_name_not, same_name_of}
 use Rattle.pcef_model.specs.Named.{has_name, put_by, without_name}
 use Rattle.pcef_model.specs.Setting.{same_name}

@@ -8,8 +8,8 @@ use Rattle.pcef_model.specs.declared.answer.Accepted.{Accepted}
 use Rattle.pcef_model.specs.declared.answer.Refusal.{Refusal}
 use Rattle.pcef_model.specs.declared.command.Command.{Command}
 use Rattle.pcef_session.specs.Answers.{AnswersCommandWithin}
-use Rattle.pcef_pool.specs.Pools.{IsPart, PoolModel, pool_faults, pool_with, room_beside}
-use Rattle.pcef_pool.specs.declared.pool_state.PoolFull.{PoolFull}
+use Rattle.pcef_share.specs.Pools.{IsPart, PoolModel, pool_faults, pool_with, room_beside}
+use Rattle.pcef_share.specs.declared.pool_state.PoolFull.{PoolFull}
 use Rattle.pcef_session.specs.SessionModel.{SessionModel}
 use Rattle.pcef_share.specs.Rates.{granted_with, no_rates}
 use Rattle.pcef_pooled.specs.Granting.{AnswersAt, PooledModel, granted_to, rates_of, settings_of}

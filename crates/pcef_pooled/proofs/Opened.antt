@@ -14,9 +14,9 @@ use Rattle.pcef_session.specs.SessionModel.{SessionModel}
 use Rattle.pcef_session.proofs.Refused.{first_after, first_before}
 use Rattle.pcef_share.specs.Rates.{no_rates, with_rates}
 use Rattle.pcef_rule.specs.declared.quantity.Sums.{Sums}
-use Rattle.pcef_pool.specs.Pools.{PoolModel, with_rate_share}
-use Rattle.pcef_pool.specs.declared.pool_state.PoolFault.{PoolFault}
-use Rattle.pcef_pool.specs.declared.pool_state.PoolFault.TheVariants as of_pool
+use Rattle.pcef_share.specs.Pools.{PoolModel, with_rate_share}
+use Rattle.pcef_share.specs.declared.pool_state.PoolFault.{PoolFault}
+use Rattle.pcef_share.specs.declared.pool_state.PoolFault.TheVariants as of_pool
 use Rattle.pcef_pooled.specs.Granting.{granted_to, rates_of}
 use Rattle.pcef_pooled.specs.Opening.{AreOpened, Asked, is_over_limit, list_faults, pooled_faults}
 use Rattle.pcef_pooled.specs.declared.fault.PooledFault.{PooledFault}

@@ -9,7 +9,7 @@ use Rattle.pcef_model.specs.Setting.{Setting}
 use Rattle.pcef_session.specs.Answers.{AnswersCommandWithin}
 use Rattle.pcef_session.specs.SessionModel.{SessionModel}
 use Rattle.pcef_share.specs.Rates.{no_rates, with_rates}
-use Rattle.pcef_pool.specs.Pools.{PoolModel, room_beside}
+use Rattle.pcef_share.specs.Pools.{PoolModel, room_beside}
 
 -- what the guaranteed rates of a session's rules sum up to
 abbrev pub rates_of : SessionModel → Sums

@@ -5,7 +5,7 @@ use Rattle.pcef_catalog.specs.declared.listing.Offer.{Offer}
 use Rattle.pcef_model.specs.Outcomes.{IsFirstFault}
 use Rattle.pcef_model.specs.ProfileModel.{ProfileModel, setting_of}
 use Rattle.pcef_model.specs.Refusals.{Conditions, first_of, open_faults}
-use Rattle.pcef_pool.specs.declared.pool_state.PoolFault.TheVariants as of_pool
+use Rattle.pcef_share.specs.declared.pool_state.PoolFault.TheVariants as of_pool
 use Rattle.pcef_pooled.specs.declared.fault.PooledFault.{PooledFault}
 use Rattle.pcef_pooled.specs.declared.fault.PooledFault.TheVariants as fault
 use Rattle.pcef_session.specs.Answers.{IsOpened}

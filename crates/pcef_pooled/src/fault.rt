@@ -1,7 +1,7 @@
 //! Why sessions can't be opened on a pool.
 
 use pcef_model::OpenFault;
-use pcef_pool::PoolFault;
+use pcef_share::PoolFault;
 use thiserror::Error;
 
 /// Why sessions can't be opened on a pool. Of several faults the first in this order is answered.

@@ -3,14 +3,13 @@
 ghost use Rattle.std.specs.Prelude.{◌≡◌, ◌<◌, IfOk, OnErr, OnOk, Some};
 ghost use Rattle.pcef_model.specs.ProfileModel.{setting_of};
 ghost use Rattle.pcef_session.specs.Answers.{AnswersCommandWithin, IsOpened};
-ghost use Rattle.pcef_pool.specs.Pools.{IsPart, pool_with, room_beside, with_rate_share};
+ghost use Rattle.pcef_share.specs.Pools.{IsPart, pool_with, room_beside, with_rate_share};
 ghost use Rattle.pcef_pooled.specs.Granting.{rates_of};
 
 use pcef_catalog::Listing;
 use pcef_model::{Accepted, Command, OpenFault, Profile, Refusal};
-use pcef_pool::PoolState;
 use pcef_session::SessionState;
-use pcef_share::{Pooling, RateShares};
+use pcef_share::{PoolState, Pooling, RateShares};
 use std::alloc::Global;
 use std::marker::Model;
 

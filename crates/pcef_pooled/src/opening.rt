@@ -9,9 +9,8 @@ use crate::fault::PooledFault;
 use crate::member::Member;
 use pcef_catalog::Listing;
 use pcef_model::Profile;
-use pcef_pool::PoolState;
 use pcef_session::open_fault;
-use pcef_share::Pooling;
+use pcef_share::{PoolState, Pooling};
 use std::alloc::{AllocError, Global};
 
 /// The first session that can't be opened, out of memory aside, and why.

@@ -11,10 +11,9 @@ use crate::member::Member;
 use crate::opening::{first_fault, open_members};
 use pcef_catalog::Listing;
 use pcef_model::{Accepted, Command, Profile, Refusal};
-use pcef_pool::PoolState;
 use pcef_rule::Sums;
 use pcef_session::SessionState;
-use pcef_share::{MAX_RATE_SHARES, Pooling, RateBlanks};
+use pcef_share::{MAX_RATE_SHARES, PoolState, Pooling, RateBlanks};
 use std::alloc::Global;
 use std::marker::Model;
 

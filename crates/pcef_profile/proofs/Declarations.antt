@@ -5,8 +5,8 @@ use Rattle.toml.specs.View.{view, items_view}
 use Rattle.pcef_rule.specs.declared.qci.Kind.{Kind}
 use Rattle.pcef_profile.specs.declared.fault.ReadProfileFault.{ReadProfileFault}
 use Rattle.pcef_profile.specs.ProfileValues.{declaration_of, declarations_of}
-use Rattle.pcef_lists.specs.Readings.{◌>>=◌}
-use Rattle.pcef_lists.proofs.ListReadings.{each}
+use Rattle.pcef_base.specs.Readings.{◌>>=◌}
+use Rattle.pcef_base.proofs.ListReadings.{each}
 
 abbrev pub declaration : Value → Result (ℕ × Kind) ReadProfileFault
 declaration v = declaration_of (view v)

@@ -8,7 +8,7 @@ use Rattle.toml.specs.Data.{Members, as_table}
 use Rattle.toml.specs.View.{view, items_view, members_view}
 use Rattle.pcef_profile.specs.declared.key.Key.{Key}
 use Rattle.pcef_profile.specs.ProfileKeys.{key_text, keys_known, each_table}
-use Rattle.pcef_lists.specs.Readings.{if_there, names_one_of}
+use Rattle.pcef_base.specs.Readings.{if_there, names_one_of}
 
 pub all_keys : (keys : List Key) (members : List (String Global × Value)) → list_all (λ text. names_one_of key_text keys (string_bytes text)) (map (λ m. m.0) members) ≡ keys_known keys (members_view members)
 all_keys keys [] = refl

@@ -4,7 +4,7 @@ use Rattle.std.specs.List.{list_all}
 use Rattle.toml.specs.Data.{Items, no_items, item, Members, no_members, member, get_member, as_array, as_table}
 use Rattle.pcef_profile.specs.declared.key.Key.{Key}
 use Rattle.pcef_profile.specs.declared.key.Key.TheVariants as key
-use Rattle.pcef_lists.specs.Readings.{if_there, names_one_of}
+use Rattle.pcef_base.specs.Readings.{if_there, names_one_of}
 
 -- a key as it stands in a profile
 abbrev pub key_text : Key → List ℕ

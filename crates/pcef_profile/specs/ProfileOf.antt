@@ -15,7 +15,7 @@ use Rattle.pcef_profile.specs.declared.fault.ReadProfileFault.TheVariants.{NotTo
 use Rattle.pcef_profile.specs.declared.key.Key.TheVariants as key
 use Rattle.pcef_profile.specs.ProfileKeys.{has_known_keys, is_whole}
 use Rattle.pcef_profile.specs.ProfileValues.{number_for, address_at, qos_at, capacity_at, declarations_at}
-use Rattle.pcef_lists.specs.Readings.{◌>>=◌, or_fault, passing}
+use Rattle.pcef_base.specs.Readings.{◌>>=◌, or_fault, passing}
 
 -- what a profile says
 pub record ProfileSaid : Type 0 where

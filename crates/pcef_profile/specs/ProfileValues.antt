@@ -13,7 +13,7 @@ use Rattle.pcef_profile.specs.declared.fault.ReadProfileFault.TheVariants.{BadVa
 use Rattle.pcef_profile.specs.declared.key.Key.{Key}
 use Rattle.pcef_profile.specs.declared.key.Key.TheVariants as key
 use Rattle.pcef_profile.specs.ProfileKeys.{key_text}
-use Rattle.pcef_lists.specs.Readings.{◌>>=◌, or_fault, passing, is_from_to, GivesUnless}
+use Rattle.pcef_base.specs.Readings.{◌>>=◌, or_fault, passing, is_from_to, GivesUnless}
 
 -- what a reader of profiles answers is what is due, unless memory ran out
 abbrev pub Gives : {X Y : Type 0} → (X → Y) → Result X ReadProfileFault → Result Y ReadProfileFault → Type 0

@@ -2,7 +2,7 @@
 
 ghost use Rattle.std.specs.Prelude.{◌≡◌, IfOk};
 ghost use Rattle.toml.specs.View.{table_view};
-ghost use Rattle.pcef_lists.specs.Readings.{passing};
+ghost use Rattle.pcef_base.specs.Readings.{passing};
 ghost use Rattle.pcef_profile.specs.ProfileValues.{Gives};
 ghost use Rattle.pcef_profile.specs.ProfileOf.{Declares, GivesProfile, kind_with, may_be_declared, said, values_of, profile_of, ProfileOf};
 ghost use Rattle.pcef_profile.specs.declared.fault.ReadProfileFault.TheVariants.{BadValue};

@@ -3,7 +3,7 @@
 ghost use Rattle.std.specs.Prelude.{◌≡◌, option_map};
 ghost use Rattle.toml.specs.Data.{get_member, as_table};
 ghost use Rattle.toml.specs.View.{view, table_view, items_view};
-ghost use Rattle.pcef_lists.specs.Readings.{if_there, names_one_of};
+ghost use Rattle.pcef_base.specs.Readings.{if_there, names_one_of};
 ghost use Rattle.pcef_profile.specs.ProfileKeys.{key_text, keys_of_declared, inner_of, entries_of, each_table, keys_known, keys_there, has_known_keys, is_whole};
 
 use crate::key::Key;

@@ -18,7 +18,7 @@ use Rattle.pcef_script.specs.declared.fault.ScriptFault.{ScriptFault}
 use Rattle.pcef_script.specs.declared.fault.ScriptFault.TheVariants as script
 use Rattle.pcef_script.specs.Scripts.{Wrote, all_lines}
 use Rattle.pcef_rule.specs.declared.quantity.Sums.{Sums}
-use Rattle.pcef_pool.specs.declared.pool_state.PoolFault.TheVariants as of_pool
+use Rattle.pcef_share.specs.declared.pool_state.PoolFault.TheVariants as of_pool
 use Rattle.pcef_pooled.specs.Opening.{Asked}
 use Rattle.pcef_pooled.specs.declared.fault.PooledFault.TheVariants as pooled
 use Rattle.pcef_run.specs.declared.fault.PlanFault.{PlanFault}

@@ -15,7 +15,7 @@ use Rattle.pcef_run.specs.declared.fault.PlanFault.{PlanFault}
 use Rattle.pcef_run.specs.declared.fault.PlanFault.TheVariants as plan
 use Rattle.pcef_run.specs.declared.fault.RunEnd.{RunEnd}
 use Rattle.pcef_run.specs.declared.fault.RunEnd.TheVariants as run
-use Rattle.pcef_pool.specs.declared.pool_state.PoolFault.TheVariants as of_pool
+use Rattle.pcef_share.specs.declared.pool_state.PoolFault.TheVariants as of_pool
 use Rattle.pcef_pooled.specs.declared.fault.PooledFault.{PooledFault}
 use Rattle.pcef_pooled.specs.declared.fault.PooledFault.TheVariants as pooled
 use Rattle.pcef_run.specs.declared.pool_end.PoolEnd.{PoolEnd}

@@ -6,11 +6,11 @@ ghost use Rattle.pcef_program.specs.Ends.{IsPlanEnd, end_status, end_text, line_
 
 use pcef_gateway::RunFault;
 use pcef_model::OpenFault;
-use pcef_pool::PoolFault;
 use pcef_pooled::PooledFault;
 use pcef_profile::ReadProfileFault;
 use pcef_run::{FirstUnfit, PlanFault, PoolEnd, RunEnd};
 use pcef_script::ScriptFault;
+use pcef_share::PoolFault;
 use std::alloc::{AllocError, Global};
 use std::io::ErrorKind;
 

@@ -2,8 +2,8 @@
 use Rattle.std.proofs.Common.{◌≡◌, ◌∙◌, ◌≤◌, ◌&&◌, ◌+◌, ℕ, Bool, true, false, List, [], ◌∷◌, ◌++◌, Contains, Some, None, filter, length, nat_le, nat_lt, refl, sym, ap, subst, arith, inl, inr}
 use Rattle.std.specs.Prelude.{Option, is_none, is_some}
 use Rattle.std.specs.Option.{option_map}
-use Rattle.pcef_lists.proofs.Keeping.{filter_length}
-use Rattle.pcef_lists.proofs.Tests.{contrary}
+use Rattle.pcef_base.proofs.Keeping.{filter_length}
+use Rattle.pcef_base.proofs.Tests.{contrary}
 use Rattle.pcef_catalog.specs.declared.listing.Offer.{Offer}
 use Rattle.pcef_rule.specs.QciKinds.{kind_of}
 use Rattle.pcef_rule.specs.declared.rule.Properties.{Properties}

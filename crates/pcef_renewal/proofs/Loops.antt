@@ -7,7 +7,7 @@ use Rattle.pcef_bearer.specs.declared.bearers.Bound.{Bound}
 use Rattle.pcef_rule.specs.declared.quantity.BearerId.{BearerId}
 use Rattle.pcef_model.specs.declared.command.Command.{Command}
 use Rattle.pcef_table.specs.declared.entry.Source.{Source}
-use Rattle.pcef_lists.proofs.Keeping.{filter_length}
+use Rattle.pcef_base.proofs.Keeping.{filter_length}
 use Rattle.pcef_model.specs.Bearers.{default_id, other_ids}
 use Rattle.pcef_renewal.specs.declared.places.BearerNumbers.{BearerNumbers}
 use Rattle.pcef_renewal.specs.Renewal.{placed, placed_from}

@@ -3,8 +3,8 @@ use Rattle.std.proofs.Common.{◌≡◌, ◌∙◌, ◌≤◌, ◌<◌, ◌+◌,
 use Rattle.std.proofs.lemmas.Bool.{cases_Bool, eq-eqb, ltb-true, ltb-false}
 use Rattle.std.proofs.lemmas.List.{length-take}
 use Rattle.std.proofs.lemmas.List.Elements.{Contains-append_cases, Contains-append_left, Contains-append_right}
-use Rattle.pcef_lists.proofs.Found.{any_from}
-use Rattle.pcef_lists.proofs.Keeping.{filter_length}
+use Rattle.pcef_base.proofs.Found.{any_from}
+use Rattle.pcef_base.proofs.Keeping.{filter_length}
 use Rattle.pcef_model.specs.ActiveRules.{Active}
 use Rattle.pcef_model.specs.Bearers.{default_id, other_ids}
 use Rattle.pcef_model.specs.Entries.{Journal}

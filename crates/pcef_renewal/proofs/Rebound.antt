@@ -4,8 +4,8 @@ use Rattle.std.specs.List.{list_any}
 use Rattle.std.proofs.lemmas.Bool.{cases_Bool, cases_lt, eq-eqb, eqb-true, false_from_ne_true, or_cases}
 use Rattle.std.proofs.lemmas.List.{append-nil, append_assoc}
 use Rattle.std.proofs.lemmas.List.Elements.{Contains-append_left, Contains-append_right, Contains-push_cases, filter-append}
-use Rattle.pcef_lists.proofs.Found.{any_from}
-use Rattle.pcef_lists.proofs.Tests.{contrary}
+use Rattle.pcef_base.proofs.Found.{any_from}
+use Rattle.pcef_base.proofs.Tests.{contrary}
 use Rattle.pcef_rule.specs.declared.quantity.Qos.{Qos}
 use Rattle.pcef_model.specs.declared.entry.Entry.TheVariants as entry
 use Rattle.pcef_model.specs.declared.command.Command.{Command}

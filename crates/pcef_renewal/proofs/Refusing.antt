@@ -4,9 +4,9 @@ use Rattle.std.specs.Prelude.{Option, is_none, is_some, if◌then◌else◌}
 use Rattle.std.specs.List.{list_any}
 use Rattle.std.proofs.lemmas.Bool.{cases_Bool, eq-eqb, eqb-true, false_from_ne_true, leb-false, lt-leb, not-false, or_cases, or_left, or_right}
 use Rattle.std.proofs.lemmas.List.Elements.{All-contains}
-use Rattle.pcef_lists.proofs.Found.{any_from, find_none}
-use Rattle.pcef_lists.proofs.Foremost.{none_passes}
-use Rattle.pcef_lists.proofs.Tests.{contrary}
+use Rattle.pcef_base.proofs.Found.{any_from, find_none}
+use Rattle.pcef_base.proofs.Foremost.{none_passes}
+use Rattle.pcef_base.proofs.Tests.{contrary}
 use Rattle.pcef_rule.specs.declared.quantity.Qos.{Qos}
 use Rattle.pcef_rule.specs.declared.rule.Properties.{Properties}
 use Rattle.pcef_catalog.specs.declared.listing.Offer.{Offer}

@@ -26,7 +26,7 @@ use Rattle.pcef_model.proofs.RulesNow.{rules_now}
 use Rattle.pcef_model.specs.Named.{has_name}
 use Rattle.pcef_model.proofs.Members.{first_there, later_there}
 use Rattle.pcef_model.proofs.Sameness.{same_name_is, same_name_self}
-use Rattle.pcef_lists.proofs.Tests.{contrary}
+use Rattle.pcef_base.proofs.Tests.{contrary}
 use Rattle.pcef_renewal.specs.Accepting.{AreTaken, IsTaken, entered}
 use Rattle.pcef_renewal.specs.Renewal.{grant_after, monitor_again}
 use Rattle.pcef_renewal.proofs.Fitting.{KeysOnce, among_to, none_at, once_next}

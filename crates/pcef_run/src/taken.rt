@@ -2,7 +2,7 @@
 
 ghost use Rattle.std.specs.Prelude.{◌≡◌, []};
 
-use pcef_history::History;
+use pcef_journal::History;
 use pcef_model::Report;
 use pcef_trigger::{Answer, ReportKind, Reporter};
 use std::alloc::Global;

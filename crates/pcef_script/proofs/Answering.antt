@@ -11,7 +11,7 @@ use Rattle.pcef_script.specs.declared.fault.ScriptFault.TheVariants as fault
 use Rattle.pcef_script.specs.ScriptAnswers.{Answers, AnswersLine, answered, fault_count}
 use Rattle.pcef_world.specs.Steps.{Standing, standing_of}
 use Rattle.pcef_script.specs.ScriptLines.{is_blank_line}
-use Rattle.pcef_writing.specs.Writing.{AppendsFront}
+use Rattle.pcef_base.specs.Writing.{AppendsFront}
 use Rattle.pcef_script.specs.Running.{EndFails, EndsLine}
 
 -- ---- lines

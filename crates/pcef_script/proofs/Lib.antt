@@ -1,10 +1,12 @@
 pub mod Answering
 pub mod Cuts
 pub mod Feeds
+pub mod Findings
 pub mod FirstLines
 pub mod KeptLines
 pub mod LineDues
 pub mod LineReads
+pub mod LinesPlayed
 pub mod OneScript
 pub mod ReadBlocks
 pub mod ScriptSteps

@@ -17,7 +17,7 @@ use Rattle.pcef_world.specs.Steps.{Standing, at_start, standing_of}
 use Rattle.pcef_script.specs.ScriptLines.{KeptLine, TakesByte, has_feed, kept_of, script_most}
 use Rattle.pcef_script.specs.Running.{EndFails, EndsLine, IsAfter, OpenFails, Stopped, StoppedIn}
 use Rattle.pcef_script.specs.Scripts.{Opened, Ran, Wrote, all_lines, cut, ended_lines, last_line}
-use Rattle.pcef_writing.proofs.Fronts.{front_after}
+use Rattle.pcef_base.proofs.Fronts.{front_after}
 use Rattle.pcef_script.proofs.Answering.{answered_more, answers_more}
 use Rattle.pcef_script.proofs.Cuts.{cut_end, cut_plain, cut_run}
 use Rattle.pcef_script.proofs.Feeds.{last_feed}

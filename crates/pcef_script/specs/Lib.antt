@@ -1,3 +1,4 @@
+pub mod Findings
 pub mod Laws
 pub mod LineAnswers
 pub mod LoneLines
@@ -6,3 +7,4 @@ pub mod Runs
 pub mod ScriptAnswers
 pub mod ScriptLines
 pub mod Scripts
+pub mod private

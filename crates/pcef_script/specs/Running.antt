@@ -10,7 +10,7 @@ use Rattle.pcef_script.specs.declared.running.Running.{Running}
 use Rattle.pcef_script.specs.ScriptAnswers.{Answers, answered}
 use Rattle.pcef_world.specs.Steps.{Standing, at_start, standing_of}
 use Rattle.pcef_script.specs.ScriptLines.{ForLine, KeptLine, kept_of, script_most}
-use Rattle.pcef_writing.specs.Writing.{AppendsFront}
+use Rattle.pcef_base.specs.Writing.{AppendsFront}
 use Rattle.pcef_script.specs.Scripts.{Wrote, WroteFront, all_lines, ended_lines, last_line}
 
 -- a session that can't be opened

@@ -1,7 +1,7 @@
 -- The lines of a script while their bytes come, and answers that are written (own choice).
 use Rattle.std.specs.Prelude.{◌≡◌, ◌≢◌, ◌+◌, ◌==◌, ◌||◌, ◌&&◌, ℕ, nat_lt, Bool, true, false, not, List, [], ◌∷◌, ◌++◌, length, take, Option, Some, None, Result, Ok, Err, OnOk, if◌then◌else◌}
 use Rattle.std.specs.List.{list_all, list_any}
-pub use Rattle.pcef_writing.specs.Writing.{AppendsFront}
+pub use Rattle.pcef_base.specs.Writing.{AppendsFront}
 use Rattle.pcef_script.specs.declared.fault.ScriptFault.{ScriptFault}
 use Rattle.pcef_script.specs.declared.fault.ScriptFault.TheVariants as fault
 

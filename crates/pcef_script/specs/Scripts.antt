@@ -8,7 +8,7 @@ use Rattle.pcef_script.specs.declared.fault.ScriptFault.TheVariants as fault
 use Rattle.pcef_script.specs.ScriptAnswers.{Answers, answered}
 use Rattle.pcef_world.specs.Steps.{Standing, at_start}
 use Rattle.pcef_script.specs.ScriptLines.{script_most}
-use Rattle.pcef_writing.specs.Writing.{AppendsFront}
+use Rattle.pcef_base.specs.Writing.{AppendsFront}
 
 -- ---- lines
 -- a byte before lines, and what follows the last of them

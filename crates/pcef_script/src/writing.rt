@@ -16,7 +16,7 @@ pub fn put_all<W: Write>(writer: &mut W, bytes: &[u8]) -> Result<(), ScriptFault
     ensures front { IfErr result
         (WritesFront (W.contents writer.old) (W.contents writer.new) bytes.now) }
 {
-    match pcef_writing::put_all(writer, bytes) {
+    match pcef_base::put_all(writer, bytes) {
         Ok(()) => Ok(()),
         Err(_) => Err(ScriptFault::Write),
     }

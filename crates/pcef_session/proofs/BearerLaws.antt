@@ -11,14 +11,14 @@ use Rattle.pcef_model.specs.ActiveRules.{Active, is_named}
 use Rattle.pcef_model.specs.Generations.{Generation, has_bearer}
 use Rattle.pcef_model.specs.Entries.{Journal}
 use Rattle.pcef_model.specs.Journals.{now, tables}
-use Rattle.pcef_lists.proofs.Tests.{contrary}
+use Rattle.pcef_base.proofs.Tests.{contrary}
 use Rattle.pcef_model.proofs.Sameness.{same_name_is, same_name_of, same_qos_self, same_qos_is}
 use Rattle.pcef_model.specs.Outcomes.{bearer_of as told_bearer}
 use Rattle.pcef_bearer.specs.Standing.{bound_of, binding_of}
 use Rattle.pcef_model.specs.Refusals.{total_up, rate_of}
 use Rattle.pcef_bearer.proofs.BoundBearers.{total_down_bound, total_up_bound, bound_by}
 use Rattle.pcef_model.proofs.BoundRules.{NamesOnce}
-use Rattle.pcef_lists.proofs.Found.{any_from}
+use Rattle.pcef_base.proofs.Found.{any_from}
 use Rattle.pcef_model.proofs.Members.{there_cases, later_there, first_there}
 use Rattle.pcef_model.proofs.Decisive.{made_once}
 use Rattle.pcef_model.specs.Lawful.{Lawful}

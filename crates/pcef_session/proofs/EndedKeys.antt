@@ -38,7 +38,7 @@ use Rattle.pcef_session.specs.private.Keys.{some_entry, comes_named, stays_with,
 use Rattle.pcef_session.specs.private.Keys as kept
 use Rattle.pcef_session.specs.Shown.{Shows, StandsFor}
 use Rattle.pcef_model.proofs.BoundRules.{NamesOnce}
-use Rattle.pcef_lists.proofs.Found.{any_from}
+use Rattle.pcef_base.proofs.Found.{any_from}
 use Rattle.pcef_model.proofs.Decisive.{made_once}
 use Rattle.pcef_session.proofs.ShownVerdicts.{rule_is}
 use Rattle.pcef_session.proofs.NextTables.{all_count_from, all_on_from}

@@ -41,7 +41,7 @@ use Rattle.pcef_model.specs.ProfileModel.{setting_of}
 use Rattle.pcef_model.proofs.Acceptance.{condition_none}
 use Rattle.pcef_model.specs.Journals.{attached}
 use Rattle.pcef_model.proofs.JournalExtends.{attached_after_flush}
-use Rattle.pcef_lane.proofs.LaneEnds.{attached_came}
+use Rattle.pcef_journal.proofs.LaneEnds.{attached_came}
 use Rattle.pcef_session.proofs.EndsMet.{ends_flushed}
 use Rattle.pcef_session.proofs.Leaving.{attached_accepted, commands_with, lanes_flushed}
 use Rattle.pcef_model.proofs.LawfulRows.{rows_with}

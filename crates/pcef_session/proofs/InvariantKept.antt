@@ -7,8 +7,8 @@ use Rattle.pcef_model.specs.Journals.{attached}
 use Rattle.pcef_model.specs.Refusals.{attach_faults, is_attached, is_close, is_terminate}
 use Rattle.pcef_model.proofs.NewLanes.{new_lane}
 use Rattle.pcef_model.proofs.JournalExtends.{attached_after_command}
-use Rattle.pcef_lane.specs.Lanes.{LanesAgree, just_attached, left}
-use Rattle.pcef_lane.proofs.LaneEnds.{attached_came, lanes_come, lanes_first, lanes_leave}
+use Rattle.pcef_journal.specs.Lanes.{LanesAgree, just_attached, left}
+use Rattle.pcef_journal.proofs.LaneEnds.{attached_came, lanes_come, lanes_first, lanes_leave}
 use Rattle.pcef_session.specs.private.Soundness.{ends_met}
 use Rattle.pcef_session.proofs.EndsMet.{ends_commanded, ends_first, few_after}
 use Rattle.pcef_session.proofs.Leaving.{lanes_commanded}
@@ -16,7 +16,7 @@ use Rattle.std.proofs.Common.{◌≡◌, ◌≤◌, ◌<◌, ◌^◌, suc, List,
 use Rattle.std.specs.Arc.{arc_value}
 use Rattle.std.proofs.lemmas.List.Elements.{All-nil}
 use Rattle.std.specs.Prelude.{Option, not}
-use Rattle.pcef_lists.proofs.Keeping.{filter_length}
+use Rattle.pcef_base.proofs.Keeping.{filter_length}
 use Rattle.pcef_rule.specs.declared.quantity.BearerId.{BearerId}
 use Rattle.pcef_model.specs.declared.command.Command.{Command}
 use Rattle.pcef_model.specs.declared.entry.Entry.TheVariants as entry

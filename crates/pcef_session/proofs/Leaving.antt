@@ -22,9 +22,9 @@ use Rattle.pcef_model.specs.Refusals.{attach_faults, first_of, flush_refusals, i
 use Rattle.pcef_model.specs.Reports.{after_command, after_flush, after_leave, with_rows}
 use Rattle.pcef_model.proofs.Acceptance.{condition_none}
 use Rattle.pcef_model.proofs.JournalExtends.{attach_count_after_command, attach_count_after_flush, attached_after_command, attached_after_flush, flushed_once, rows_after_command, rows_after_flush}
-use Rattle.pcef_lane.specs.declared.lanes.LaneEnd.{LaneEnd}
-use Rattle.pcef_lane.specs.Lanes.{LanesAgree}
-use Rattle.pcef_lane.proofs.LaneEnds.{attached_with, count_with, lanes_rows, lanes_same}
+use Rattle.pcef_journal.specs.declared.lanes.LaneEnd.{LaneEnd}
+use Rattle.pcef_journal.specs.Lanes.{LanesAgree}
+use Rattle.pcef_journal.proofs.LaneEnds.{attached_with, count_with, lanes_rows, lanes_same}
 use Rattle.pcef_session.specs.private.TakenRows.{with_lane}
 
 -- ---- rows

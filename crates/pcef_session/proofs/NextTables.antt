@@ -18,7 +18,7 @@ use Rattle.pcef_table.specs.declared.entry.Source.TheVariants.{Dynamic, Predefin
 use Rattle.pcef_catalog.specs.declared.listing.Offer.{Offer}
 use Rattle.pcef_table.specs.Sources.{IsKnown, name_of, source_rank}
 use Rattle.pcef_table.specs.Tables.{GoesBefore, IsTable, TableValue, placed, with_counting, without_taken, is_taken, is_slot}
-use Rattle.pcef_lists.proofs.Foremost.{ordered_head, ordered_tail}
+use Rattle.pcef_base.proofs.Foremost.{ordered_head, ordered_tail}
 use Rattle.pcef_table.proofs.Ordered.{apart, counting_is_table, placed_is_table, part_is_table}
 use Rattle.pcef_model.specs.declared.entry.Entry.TheVariants as entry
 use Rattle.pcef_model.specs.declared.command.Command.{Command}
@@ -34,7 +34,7 @@ use Rattle.pcef_model.specs.Commands.{add_key, at_session_level, is_among, key_n
 use Rattle.pcef_model.specs.Entries.{Journal}
 use Rattle.pcef_model.specs.Journals.{at, gen, level_of, now, slots, tables}
 use Rattle.pcef_model.proofs.Growth.{at_newest, tables_of_table, tables_of_other}
-use Rattle.pcef_lists.proofs.Tests.{contrary}
+use Rattle.pcef_base.proofs.Tests.{contrary}
 use Rattle.pcef_model.proofs.Sameness.{same_name_is, same_name_not, same_name_of, same_name_turned}
 use Rattle.pcef_model.specs.declared.entry.Entry.TheVariants as entry
 use Rattle.pcef_model.specs.ActiveRules as rules
@@ -67,7 +67,7 @@ use Rattle.pcef_bearer.proofs.BoundBearers.{next_id}
 use Rattle.pcef_session.proofs.HeldSound.{IsSoundHeld, few_generations}
 use Rattle.pcef_session.proofs.KeptRules.{kept_length}
 use Rattle.pcef_model.proofs.BoundRules.{NamesOnce}
-use Rattle.pcef_lists.proofs.Found.{any_from}
+use Rattle.pcef_base.proofs.Found.{any_from}
 use Rattle.pcef_model.proofs.Members.{first_there, later_there, map_to, put_new}
 use Rattle.pcef_session.proofs.ShownChanges.{Fives, after_is, has_key_from, lawful_fives, name_is, shows_monitor, shows_put, still, shows_stop}
 use Rattle.pcef_model.proofs.Decisive.{made_once, once_is}

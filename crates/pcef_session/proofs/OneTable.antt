@@ -3,8 +3,8 @@ use Rattle.std.proofs.Common.{◌≡◌, ◌∙◌, ℕ, true, List, [], ◌∷�
 use Rattle.std.proofs.lemmas.List.Elements.{All-contains}
 use Rattle.pcef_rule.specs.Precedence.{Rank, goes_before}
 use Rattle.pcef_catalog.specs.declared.listing.Offer.{Offer}
-use Rattle.pcef_lists.proofs.Foremost.{ordered_head, ordered_tail}
-use Rattle.pcef_lists.proofs.Tests.{contrary}
+use Rattle.pcef_base.proofs.Foremost.{ordered_head, ordered_tail}
+use Rattle.pcef_base.proofs.Tests.{contrary}
 use Rattle.pcef_table.specs.declared.entry.TableEntry.{TableEntry}
 use Rattle.pcef_table.specs.Sources.{name_of, source_rank}
 use Rattle.pcef_table.specs.Tables.{GoesBefore, TableValue}

@@ -2,8 +2,8 @@
 use Rattle.std.proofs.Common.{◌-◌, [], None, Some, length, set, suc, arith}
 use Rattle.std.specs.Prelude.{slice_get}
 use Rattle.std.proofs.lemmas.List.{length-map}
-use Rattle.pcef_lane.specs.declared.lanes.LaneEnd.{LaneEnd}
-use Rattle.pcef_lane.specs.Lanes.{just_attached, last_generation, lengthened}
+use Rattle.pcef_journal.specs.declared.lanes.LaneEnd.{LaneEnd}
+use Rattle.pcef_journal.specs.Lanes.{just_attached, last_generation, lengthened}
 use Rattle.pcef_session.specs.private.TakenRows.{with_lane}
 use Rattle.std.proofs.Common.{◌≡◌, ◌∙◌, ◌≤◌, ◌<◌, ◌+◌, ℕ, List, ◌∷◌, length, sym, ap, subst, drop, get_or}
 use Rattle.std.proofs.lemmas.List.{drop_all, drop_more}

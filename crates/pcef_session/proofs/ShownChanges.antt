@@ -27,7 +27,7 @@ use Rattle.pcef_model.specs.Bearers.{default_id}
 use Rattle.pcef_model.specs.Entries.{Journal}
 use Rattle.pcef_model.specs.Journals.{at, gen, now, slots, tables}
 use Rattle.pcef_model.proofs.Growth.{at_newest, gen_after_table, now_after_table, tables_of_table}
-use Rattle.pcef_lists.proofs.Tests.{contrary}
+use Rattle.pcef_base.proofs.Tests.{contrary}
 use Rattle.pcef_model.proofs.Sameness.{same_name_is, same_name_of, same_qos_self, same_name_not, same_name_turned}
 use Rattle.pcef_model.specs.declared.entry.Entry.TheVariants as entry
 use Rattle.pcef_usage.proofs.Gone.{among_filter}
@@ -38,7 +38,7 @@ use Rattle.pcef_model.specs.Slots.{counts_now, place_of, slot_of}
 use Rattle.pcef_model.specs.Lawful.{Lawful}
 use Rattle.pcef_model.proofs.BearerIds.{lawful_bound}
 use Rattle.pcef_model.proofs.BoundRules.{NamesOnce}
-use Rattle.pcef_lists.proofs.Found.{any_from}
+use Rattle.pcef_base.proofs.Found.{any_from}
 use Rattle.pcef_model.proofs.Members.{filter_from, filter_to, first_there, later_there, map_from, map_to, put_cases, put_new, put_old, there_cases}
 use Rattle.pcef_model.proofs.SlotsGrow.{shown_slots, slot_stays}
 use Rattle.pcef_model.proofs.Decisive.{made_once}

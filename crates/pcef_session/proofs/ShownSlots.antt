@@ -16,14 +16,14 @@ use Rattle.pcef_table.specs.SessionSlots.{slots_counted}
 use Rattle.pcef_table.specs.Verdicts.{counted_slot, slot_for}
 use Rattle.pcef_session.proofs.SessionFlags.{with_up, with_up_within}
 use Rattle.pcef_session.proofs.SessionKeys.{by_key}
-use Rattle.pcef_lists.proofs.Foremost.{found_is_foremost}
+use Rattle.pcef_base.proofs.Foremost.{found_is_foremost}
 use Rattle.pcef_model.specs.Setting.{Setting, most_keys, same_name}
 use Rattle.pcef_model.specs.ActiveRules.{Active, decisive, is_decisive, is_key}
 use Rattle.pcef_model.specs.Generations.{Generation}
 use Rattle.pcef_model.specs.Commands.{is_among}
 use Rattle.pcef_model.specs.Entries.{Journal}
 use Rattle.pcef_model.specs.Journals.{Decision, at, counts_in, decided_by, decision, gated, verdict_at, passed, slots, stray, tables, unmatched, verdict_of, passed_for}
-use Rattle.pcef_lists.proofs.Tests.{contrary}
+use Rattle.pcef_base.proofs.Tests.{contrary}
 use Rattle.pcef_model.proofs.Sameness.{same_name_is, same_name_of}
 use Rattle.pcef_model.specs.Slots.{AreSlotsOf, counts_now, place_of, slot_of}
 use Rattle.pcef_model.proofs.SlotWords.{IsWithin, has_one_of, is_at}
@@ -35,7 +35,7 @@ use Rattle.pcef_session.proofs.ShownVerdicts.{rule_is}
 use Rattle.pcef_model.proofs.SlotPlaces.{place_once, place_there}
 use Rattle.pcef_model.proofs.SlotsOf.{are_slots_of, slots_once}
 use Rattle.pcef_model.proofs.SlotsLater.{place_within}
-use Rattle.pcef_lists.proofs.Found.{find_some}
+use Rattle.pcef_base.proofs.Found.{find_some}
 
 -- ---- the slot of an entry
 place_at : (key k : List ℕ) (keys : List (List ℕ)) (n : ℕ) → place_of k keys ≡ Some n → same_name key k ≡ false → is_at (place_of key keys) n ≡ false

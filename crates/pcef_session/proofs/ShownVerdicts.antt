@@ -27,7 +27,7 @@ use Rattle.pcef_model.specs.Journals.{at, verdict_at}
 use Rattle.pcef_model.proofs.Sameness.{same_name_of}
 use Rattle.pcef_session.specs.Shown.{Shows, StandsFor, entry_rule}
 use Rattle.pcef_model.proofs.BoundRules.{NamesOnce}
-use Rattle.pcef_lists.proofs.Found.{all_from, find_none, find_one}
+use Rattle.pcef_base.proofs.Found.{all_from, find_none, find_one}
 use Rattle.pcef_model.proofs.Decisive.{decisive_once}
 
 -- ---- an entry and the rule that it stands for

@@ -21,7 +21,7 @@ use Rattle.pcef_model.proofs.Growth.{at_newest}
 use Rattle.pcef_session.specs.private.Keys.{key_switched}
 use Rattle.pcef_session.specs.Shown.{Shows, ShowsSessionKeys, StandsFor}
 use Rattle.pcef_model.specs.Slots.{counts_now}
-use Rattle.pcef_lists.proofs.Found.{any_from}
+use Rattle.pcef_base.proofs.Found.{any_from}
 use Rattle.pcef_model.proofs.Members.{filter_from, filter_to, first_there, later_there}
 use Rattle.pcef_session.proofs.ShownChanges.{Fives, each_now, name_is, only_now, shows_next, stands_next, still}
 use Rattle.pcef_model.proofs.BoundRules.{NamesOnce}

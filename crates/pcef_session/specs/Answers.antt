@@ -3,8 +3,8 @@ use Rattle.std.specs.Prelude.{ℕ, ◌≡◌, ◌≤◌, ◌<◌, ◌-◌, List,
 use Rattle.std.specs.Result.{result_map_both}
 use Rattle.pcef_bearer.specs.Bindings.{Binding}
 use Rattle.pcef_bearer.specs.Standing.{binding_of}
-use Rattle.pcef_lane.specs.declared.lanes.LaneEnd.{LaneEnd}
-use Rattle.pcef_lane.specs.Lanes.{lane_end}
+use Rattle.pcef_journal.specs.declared.lanes.LaneEnd.{LaneEnd}
+use Rattle.pcef_journal.specs.Lanes.{lane_end}
 use Rattle.pcef_rule.specs.declared.quantity.Sums.{Sums}
 use Rattle.pcef_model.specs.declared.answer.Accepted.{Accepted}
 use Rattle.pcef_model.specs.declared.answer.FlushRefusal.{FlushRefusal}

@@ -1,7 +1,7 @@
 //! Rows that are taken over.
 
 ghost use Rattle.std.specs.Prelude.{◌≡◌, ◌≤◌, ◌<◌, ◌+◌, ◌^◌, ◌∷◌, get_or, length, map, IfOk};
-ghost use Rattle.pcef_lane.specs.Lanes.{just_attached};
+ghost use Rattle.pcef_journal.specs.Lanes.{just_attached};
 ghost use Rattle.pcef_model.specs.Reports.{with_rows};
 ghost use Rattle.pcef_model.specs.Outcomes.{judged_of};
 ghost use Rattle.pcef_session.specs.private.TakenRows.{CanCountAll, IsTaken, with_lane};
@@ -9,7 +9,7 @@ ghost use Rattle.pcef_session.specs.Following.{row_of, row_slots};
 ghost use Rattle.pcef_usage.specs.Flushes.{rows_counted};
 
 use crate::batch::Item;
-use pcef_lane::Lanes;
+use pcef_journal::Lanes;
 use pcef_model::Judged;
 use pcef_usage::CountedJournal;
 use std::alloc::{AllocError, Global};

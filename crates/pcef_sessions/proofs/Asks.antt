@@ -17,7 +17,7 @@ use Rattle.pcef_line.specs.FilterReads.{FilterReading}
 use Rattle.pcef_line.specs.LineOf.{fields_at, line_at, line_by, word_at}
 use Rattle.pcef_line.specs.LineShape.{is_known}
 use Rattle.pcef_line.specs.LineWords.{word_of}
-use Rattle.pcef_lists.specs.Readings.{◌>>=◌, or_fault, passing}
+use Rattle.pcef_base.specs.Readings.{◌>>=◌, or_fault, passing}
 use Rattle.pcef_script.specs.ScriptAnswers.{AnswersAs, AnswersLine, DueWithin, LineDue}
 use Rattle.pcef_script.specs.ScriptLines.{within_limit}
 use Rattle.pcef_sessions.specs.declared.asking.Asking.{Asking}

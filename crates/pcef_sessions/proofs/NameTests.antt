@@ -11,7 +11,7 @@ use Rattle.std.proofs.lemmas.Str.{IsUtf8-from_ascii}
 use Rattle.std.proofs.lemmas.Str.Ascii.{IsAscii-from_all}
 use Rattle.pcef_rule.specs.Name.{IsName, IsVisible}
 use Rattle.pcef_line.specs.LineValues.{is_visible, is_name}
-use Rattle.pcef_lists.specs.Readings.{is_from_to}
+use Rattle.pcef_base.specs.Readings.{is_from_to}
 use Rattle.pcef_sessions.specs.Addressed.{is_session_name, no_name}
 
 decides_range : (least most n : ℕ) → Decides (is_from_to least most n) ((least ≤ n) × (n ≤ most))

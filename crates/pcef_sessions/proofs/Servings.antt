@@ -16,8 +16,8 @@ use Rattle.pcef_script.specs.Scripts.{Opened, all_lines, cut, ended_lines, last_
 use Rattle.memchr.specs.Find.{IsFirstByte, is_byte}
 use Rattle.pcef_script.proofs.Cuts.{cut_end, cut_run}
 use Rattle.pcef_script.proofs.ScriptSteps.{around}
-use Rattle.pcef_writing.specs.Writing.{AppendsFront}
-use Rattle.pcef_writing.proofs.Fronts.{front_after}
+use Rattle.pcef_base.specs.Writing.{AppendsFront}
+use Rattle.pcef_base.proofs.Fronts.{front_after}
 use Rattle.pcef_sessions.specs.declared.sessions.Sessions.{Sessions}
 use Rattle.pcef_sessions.specs.Addressed.{addressed}
 use Rattle.pcef_sessions.specs.Sayings.{Said, SaysTo}

@@ -7,8 +7,8 @@ use Rattle.std.specs.Io.KnownBytes.{Keeps}
 use Rattle.std.proofs.lemmas.List.{length-map}
 use Rattle.std.proofs.lemmas.List.Elements.{All-nil}
 use Rattle.pcef_model.specs.Setting.{Setting}
-use Rattle.pcef_writing.specs.Writing.{AppendsFront}
-use Rattle.pcef_writing.proofs.Fronts.{front_after}
+use Rattle.pcef_base.specs.Writing.{AppendsFront}
+use Rattle.pcef_base.proofs.Fronts.{front_after}
 use Rattle.pcef_sessions.specs.declared.frame_fault.FrameFault.{FrameFault}
 use Rattle.pcef_sessions.specs.declared.sessions.Sessions.{Sessions}
 use Rattle.pcef_sessions.specs.Addressed.{addressed_name, lines_of}

@@ -6,7 +6,7 @@ use Rattle.serde_json.specs.Find.{get, as_str, as_object}
 use Rattle.serde_json.specs.Read.{read}
 use Rattle.pcef_packet.specs.declared.header.Addr.{Addr}
 use Rattle.pcef_packet.specs.AddressTexts.{address_of}
-use Rattle.pcef_lists.specs.Readings.{if_there}
+use Rattle.pcef_base.specs.Readings.{if_there}
 use Rattle.pcef_script.specs.ScriptLines.{within_limit}
 use Rattle.pcef_sessions.specs.declared.asking.Asking.{Asking}
 use Rattle.pcef_sessions.specs.declared.asking.Asking.TheVariants.{Open, Renew, Lines, End, Fault, Script}

@@ -4,7 +4,7 @@ use Rattle.std.specs.Io.KnownBytes.{Appends, Consumes, IsAtEnd}
 use Rattle.pcef_model.specs.Setting.{Setting}
 use Rattle.pcef_script.specs.declared.fault.ScriptFault.{ScriptFault}
 use Rattle.pcef_script.specs.declared.fault.ScriptFault.TheVariants as fault
-use Rattle.pcef_writing.specs.Writing.{AppendsFront}
+use Rattle.pcef_base.specs.Writing.{AppendsFront}
 use Rattle.pcef_sessions.specs.declared.frame_fault.FrameFault.TheVariants.{BadLength, CutFrame}
 use Rattle.pcef_sessions.specs.Framed.{AreFrames, HasBadLength, IsPart, IsUnfinished}
 use Rattle.pcef_sessions.specs.FrameSayings.{malformed}

@@ -8,7 +8,7 @@ use Rattle.pcef_script.specs.declared.fault.ScriptFault.{ScriptFault}
 use Rattle.pcef_script.specs.declared.fault.ScriptFault.TheVariants as fault
 use Rattle.pcef_script.specs.ScriptAnswers.{answered}
 use Rattle.pcef_script.specs.Scripts.{all_lines, ended_lines}
-use Rattle.pcef_writing.specs.Writing.{AppendsFront}
+use Rattle.pcef_base.specs.Writing.{AppendsFront}
 use Rattle.pcef_sessions.specs.Addressed.{lines_of, addressed_name, no_name}
 use Rattle.pcef_sessions.specs.Sayings.{Said, bad_name}
 use Rattle.pcef_sessions.specs.Under.{Session, UnderName}

@@ -4,8 +4,8 @@ ghost use Rattle.std.specs.Prelude.{◌≡◌, []};
 ghost use Rattle.pcef_shards.specs.Outlets.{all_written};
 
 use memchr::memrchr;
-use pcef_history::History;
-use pcef_writing::put_all;
+use pcef_base::put_all;
+use pcef_journal::History;
 use std::alloc::Global;
 use std::io::{self, ErrorKind, Write};
 use std::sync::{Arc, Mutex, Wait};

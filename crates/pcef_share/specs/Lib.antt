@@ -1,4 +1,5 @@
 pub mod Amounts
 pub mod Names
+pub mod Pools
 pub mod Rates
 pub mod private

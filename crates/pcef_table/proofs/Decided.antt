@@ -19,8 +19,8 @@ use Rattle.pcef_table.specs.Sources.{source_fits, source_is_named, name_of, prop
 use Rattle.pcef_table.specs.Tables.{AreNamedApart, GoesBefore, TableValue}
 use Rattle.pcef_table.specs.SessionSlots.{slots_beside, slots_counted}
 use Rattle.pcef_table.specs.Verdicts.{IsDecisive, IsPlaced, IsVerdict, counted_slot, gate_verdict, slot_by, slot_for, verdict_by}
-use Rattle.pcef_lists.proofs.Foremost.{found_is_foremost}
-use Rattle.pcef_lists.proofs.Found.{find_some}
+use Rattle.pcef_base.proofs.Foremost.{found_is_foremost}
+use Rattle.pcef_base.proofs.Found.{find_some}
 
 -- the first entry that fits is decisive
 first_is_decisive : (offers : List Offer) (entries : List TableEntry) (ue : Addr) (header : Header) (e : TableEntry) (p : Properties) → AllPairs (GoesBefore offers) entries → find (λ (f : TableEntry). source_fits offers ue header f.source) entries ≡ Some e → properties_of offers e.source ≡ Some p → IsDecisive offers entries ue header e p

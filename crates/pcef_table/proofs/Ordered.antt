@@ -15,9 +15,9 @@ use Rattle.pcef_catalog.specs.declared.listing.Offer.{Offer}
 use Rattle.pcef_table.specs.Sources.{IsKnown, source_is_named, name_of, source_rank}
 use Rattle.pcef_table.specs.Tables.{AreNamedApart, GoesBefore, IsTable, has_other_name, goes_ahead, is_behind, is_slot, most_entries, placed, with_counting, without_entry}
 use Rattle.std.proofs.lemmas.Slice.Eq.{bytes_eq-Decides}
-use Rattle.pcef_lists.proofs.Tests.{contrary}
-use Rattle.pcef_lists.proofs.Keeping.{filter_length, filters_apart}
-use Rattle.pcef_lists.proofs.Foremost.{ordered_head, ordered_tail}
+use Rattle.pcef_base.proofs.Tests.{contrary}
+use Rattle.pcef_base.proofs.Keeping.{filter_length, filters_apart}
+use Rattle.pcef_base.proofs.Foremost.{ordered_head, ordered_tail}
 
 -- an order that tests as less is less
 less_if : (o : Ordering) → is_lt o ≡ true → o ≡ Less

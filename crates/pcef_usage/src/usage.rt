@@ -46,7 +46,7 @@ pub struct KeyState {
 }
 
 /// Memory for keys that get a slot later.
-pub type KeyPlaces = pcef_lists::Places<KeyState>;
+pub type KeyPlaces = pcef_base::Places<KeyState>;
 
 impl KeyState {
     fn start(&mut self, amount: u64)

@@ -1,5 +1,5 @@
 -- A worker that stands apart stays one of its session's as the session goes on without it.
-use Rattle.pcef_lane.proofs.LaneEnds.{leave_other}
+use Rattle.pcef_journal.proofs.LaneEnds.{leave_other}
 use Rattle.std.proofs.Common.{◌≡◌, ◌∙◌, ◌<◌, ◌==◌, ◌++◌, ◌∷◌, [], ℕ, List, All, filter, length, map, refl, sym, ap, subst, arith, inl, None, Some, Ok, Err}
 use Rattle.std.specs.Prelude.{Option, Result, slice_get, nat_le, ◌||◌}
 use Rattle.std.specs.List.{list_any}

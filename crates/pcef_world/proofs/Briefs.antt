@@ -22,7 +22,7 @@ use Rattle.pcef_table.specs.Sources.{IsKnown, properties_of, source_fits}
 use Rattle.pcef_table.specs.Tables.{IsTable, TableValue}
 use Rattle.pcef_table.specs.Verdicts.{gate_verdict, slot_by, verdict_by}
 use Rattle.pcef_table.proofs.Decided.{beside_counted, entry_counts, entry_decides, entry_is_placed}
-use Rattle.pcef_lists.proofs.Foremost.{none_passes}
+use Rattle.pcef_base.proofs.Foremost.{none_passes}
 use Rattle.pcef_index.specs.Places.{IsFirstPlace}
 use Rattle.pcef_index.proofs.Places.{got_is_there}
 use Rattle.pcef_world.specs.Newest.{IsBriefOf, brief_of}

@@ -1,5 +1,5 @@
 -- What always holds of a worker stays as the journal grows, and as the worker works.
-use Rattle.pcef_lane.proofs.LaneEnds.{leave_other}
+use Rattle.pcef_journal.proofs.LaneEnds.{leave_other}
 use Rattle.std.proofs.Common.{◌≡◌, ◌∙◌, ◌≤◌, ◌+◌, ℕ, true, false, ◌==◌, List, [], ◌∷◌, ◌++◌, All, length, filter, map, refl, sym, ap, subst, arith, None}
 use Rattle.std.specs.Prelude.{◌||◌, slice_index_or}
 use Rattle.std.specs.List.{list_any}

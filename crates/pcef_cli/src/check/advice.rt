@@ -1,8 +1,8 @@
 //! What to do about a refusal.
 
-use pcef_findings::Found;
 use pcef_line::Field;
 use pcef_model::{AttachFault, FlushRefusal, Refusal};
+use pcef_script::Found;
 
 /// What to do about the refusal of a command.
 fn on_command(refusal: Refusal) -> Option<&'static str> {

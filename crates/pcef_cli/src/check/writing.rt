@@ -4,8 +4,8 @@ use crate::check::advice::{advice_on, field_on};
 use pcef_built_in::ShapedCatalog;
 use pcef_catalog::Offers;
 use pcef_explain::{Explanation, explain, explain_field, explain_rule_name};
-use pcef_findings::{Finding, Found};
 use pcef_model::Refusal;
+use pcef_script::{Finding, Found};
 use std::alloc::{AllocError, Global};
 use std::io::{self, Write};
 

@@ -1,6 +1,6 @@
 -- What always holds of a session's parts.
 use Rattle.std.specs.Prelude.{Bool, ◌+◌, if◌then◌else◌}
-use Rattle.pcef_lane.specs.Lanes.{LanesAgree}
+use Rattle.pcef_journal.specs.Lanes.{LanesAgree}
 use Rattle.std.specs.Prelude.{ℕ, ◌≡◌, ◌≤◌, ◌<◌, ◌^◌, All, length}
 use Rattle.std.specs.Arc.{arc_value}
 use Rattle.pcef_model.specs.declared.row.Row.{Row}

@@ -1,7 +1,7 @@
 -- Rows that are taken over.
 use Rattle.std.specs.Prelude.{ℕ, length, set, get_or}
-use Rattle.pcef_lane.specs.declared.lanes.LaneEnd.{LaneEnd}
-use Rattle.pcef_lane.specs.Lanes.{just_attached, last_generation, lengthened}
+use Rattle.pcef_journal.specs.declared.lanes.LaneEnd.{LaneEnd}
+use Rattle.pcef_journal.specs.Lanes.{just_attached, last_generation, lengthened}
 use Rattle.pcef_session.specs.Following.{row_of, row_slots}
 use Rattle.std.specs.Prelude.{◌≡◌, Bool, List, [], ◌∷◌, map}
 use Rattle.pcef_model.specs.declared.row.Row.{Row}

@@ -12,7 +12,7 @@ ghost use Rattle.pcef_session.specs.SessionModel.{HasAtLeast};
 
 use super::SessionState;
 use crate::batch::{Batch, Item};
-use pcef_lane::LaneEnd;
+use pcef_journal::LaneEnd;
 use pcef_model::{Entry, FlushRefusal, Verdicts};
 
 impl SessionState {

@@ -3,7 +3,7 @@
 ghost use Rattle.std.specs.Prelude.{reverse};
 
 use crate::tests::expect_equal;
-use pcef_history::History;
+use pcef_journal::History;
 use pcef_model::{AccessKind, Body, Cause, InactiveCause, NoticeValue, Report};
 use pcef_rule::{KeyName, RuleName};
 use pcef_trigger::{Answer, Delivered, Outlet, ReportKind, Reporter, SameKind, deliveries_join};

@@ -2,9 +2,9 @@ use Rattle.std.proofs.Common.{◌≡◌, ◌∙◌, ◌++◌, ap, subst}
 use Rattle.std.proofs.lemmas.Result.{err_from_is_err_and}
 use Rattle.pcef_capture_file.specs.Captured.{captured}
 use Rattle.pcef_capture_script.specs.Turns.{lines_if}
-use Rattle.pcef_writing.specs.Writing.{AppendsFront}
+use Rattle.pcef_base.specs.Writing.{AppendsFront}
 use Rattle.pcef_capture_script.proofs.Fates.{fate_there}
-use Rattle.pcef_writing.proofs.Fronts.{front_none}
+use Rattle.pcef_base.proofs.Fronts.{front_none}
 use Rattle.pcef_capture_script.proofs.takes.put_packet.Goals as goal
 
 -- nothing was put

@@ -3,7 +3,7 @@ use Rattle.std.specs.Prelude.{string_bytes}
 use Rattle.std.proofs.lemmas.Iterator.Consumers.{YieldsList-from_rest}
 use Rattle.std.proofs.lemmas.Iterator.Search.{all_from_yields_List}
 use Rattle.pcef_line.specs.LineWords.{field_text}
-use Rattle.pcef_lists.specs.Readings.{names_one_of}
+use Rattle.pcef_base.specs.Readings.{names_one_of}
 use Rattle.pcef_line.proofs.Objects.{all_members}
 use Rattle.pcef_line.proofs.known.members_are_known.Goals as goal
 

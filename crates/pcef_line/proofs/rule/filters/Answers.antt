@@ -1,7 +1,7 @@
 use Rattle.std.proofs.lemmas.Result.{err_from_is_err_and}
 use Rattle.pcef_line.specs.declared.fault.LineFault.TheVariants.{NoMemory}
 use Rattle.pcef_line.proofs.FilterLists.{filter, all_filters}
-use Rattle.pcef_lists.proofs.ListReadings.{begins, goes_on, stops, is_done}
+use Rattle.pcef_base.proofs.ListReadings.{begins, goes_on, stops, is_done}
 use Rattle.pcef_line.proofs.rule.filters.Goals as goal
 
 pub loop-value-init : goal.loop-value-init

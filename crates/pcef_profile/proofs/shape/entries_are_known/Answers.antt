@@ -4,7 +4,7 @@ use Rattle.std.proofs.lemmas.Iterator.Search.{all_from_yields_List}
 use Rattle.toml.specs.Data.{as_table}
 use Rattle.toml.specs.View.{view}
 use Rattle.pcef_profile.specs.ProfileKeys.{keys_of_declared, keys_known}
-use Rattle.pcef_lists.specs.Readings.{if_there}
+use Rattle.pcef_base.specs.Readings.{if_there}
 use Rattle.pcef_profile.proofs.Tables.{all_tables}
 use Rattle.pcef_profile.proofs.shape.entries_are_known.Goals as goal
 

@@ -1,6 +1,6 @@
 use Rattle.std.proofs.lemmas.Result.{err_from_is_err_and}
 use Rattle.pcef_profile.specs.declared.fault.ReadProfileFault.TheVariants.{NoMemory}
-use Rattle.pcef_lists.proofs.ListReadings.{begins, goes_on, stops, is_done}
+use Rattle.pcef_base.proofs.ListReadings.{begins, goes_on, stops, is_done}
 use Rattle.pcef_profile.proofs.Declarations.{declaration, all_declarations}
 use Rattle.pcef_profile.proofs.values.declarations.Goals as goal
 

@@ -1,6 +1,6 @@
 use Rattle.toml.specs.View.{items_view}
 use Rattle.pcef_profile.specs.ProfileValues.{declarations_of}
-use Rattle.pcef_lists.proofs.ListReadings.{IsReadTo}
+use Rattle.pcef_base.proofs.ListReadings.{IsReadTo}
 use Rattle.pcef_profile.proofs.Declarations.{declaration}
 use Rattle.pcef_profile.proofs.values.declarations.Given as goal
 

@@ -1,8 +1,8 @@
 use Rattle.std.proofs.Common.{◌∷◌, [], string_bytes, subst}
 use Rattle.std.specs.Io.KnownBytes.{Appends}
 use Rattle.std.proofs.lemmas.Result.{IfErr-weaker, err_from_is_err_and}
-use Rattle.pcef_writing.specs.Writing.{AppendsFront}
-use Rattle.pcef_writing.proofs.Fronts.{front_after, front_more}
+use Rattle.pcef_base.specs.Writing.{AppendsFront}
+use Rattle.pcef_base.proofs.Fronts.{front_after, front_more}
 use Rattle.pcef_script.proofs.writing.write_answer.Goals as goal
 
 pub returns-in_err-put_all-clause-front : goal.returns-in_err-put_all-clause-front

@@ -1,8 +1,8 @@
 use Rattle.std.proofs.Common.{◌∙◌, ◌∷◌, [], subst}
 use Rattle.std.specs.Io.KnownBytes.{Appends}
 use Rattle.std.proofs.lemmas.Result.{IfErr-weaker, err_from_is_err_and}
-use Rattle.pcef_writing.specs.Writing.{AppendsFront}
-use Rattle.pcef_writing.proofs.Fronts.{front_after, front_more}
+use Rattle.pcef_base.specs.Writing.{AppendsFront}
+use Rattle.pcef_base.proofs.Fronts.{front_after, front_more}
 use Rattle.pcef_sessions.specs.Served.{name_bytes}
 use Rattle.pcef_sessions.proofs.running.write_name.Goals as goal
 

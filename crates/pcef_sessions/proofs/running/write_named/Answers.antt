@@ -1,7 +1,7 @@
 use Rattle.std.proofs.Common.{◌∷◌, ◌++◌, [], string_bytes}
 use Rattle.std.proofs.lemmas.Result.{IfErr-weaker, err_from_is_err_and}
 use Rattle.pcef_script.specs.LineAnswers.{answer_bytes}
-use Rattle.pcef_writing.proofs.Fronts.{front_after, front_more}
+use Rattle.pcef_base.proofs.Fronts.{front_after, front_more}
 use Rattle.pcef_sessions.specs.Served.{name_bytes}
 use Rattle.pcef_sessions.proofs.running.write_named.Goals as goal
 

@@ -4,7 +4,7 @@ use Rattle.pcef_table.specs.Sides.{stays_beside}
 use Rattle.pcef_table.specs.declared.change.Side.TheVariants.{Before, Behind}
 use Rattle.pcef_table.specs.Sources.{name_of}
 use Rattle.pcef_table.specs.Tables.{has_other_name, goes_ahead, is_behind}
-use Rattle.pcef_lists.proofs.Keeping.{filter_twice}
+use Rattle.pcef_base.proofs.Keeping.{filter_twice}
 use Rattle.pcef_table.proofs.change.copy_with.Goals as goal
 
 pub returns : goal.returns

@@ -2,7 +2,7 @@ use Rattle.std.proofs.Common.{◌∙◌, sym}
 use Rattle.pcef_table.specs.declared.entry.TableEntry.{TableEntry}
 use Rattle.pcef_table.specs.Sources.{source_fits}
 use Rattle.pcef_table.proofs.Decided.{gate_decides}
-use Rattle.pcef_lists.proofs.Foremost.{none_passes}
+use Rattle.pcef_base.proofs.Foremost.{none_passes}
 use Rattle.pcef_index.proofs.index.Index.classify.Goals as goal
 
 pub returns-in-None : goal.returns-in-None

@@ -3,7 +3,7 @@ use Rattle.pcef_table.specs.declared.entry.TableEntry.{TableEntry}
 use Rattle.pcef_table.specs.Sources.{source_fits}
 use Rattle.pcef_table.specs.Verdicts.{IsVerdict}
 use Rattle.pcef_table.proofs.Decided.{entry_decides}
-use Rattle.pcef_lists.proofs.Foremost.{none_passes}
+use Rattle.pcef_base.proofs.Foremost.{none_passes}
 use Rattle.pcef_index.proofs.indexed.Indexed.judged.Goals as goal
 
 pub returns-in_default-clause-verdict : goal.returns-in_default-clause-verdict

@@ -1,7 +1,7 @@
 use Rattle.std.proofs.Common.{rules, ◌≡◌, ◌∙◌, false, true, None, Some, subst, sym}
 use Rattle.pcef_model.specs.Lawful.{Lawful}
 use Rattle.pcef_model.specs.Refusals.{total_now}
-use Rattle.pcef_pool.specs.Pools.{room_beside}
+use Rattle.pcef_share.specs.Pools.{room_beside}
 use Rattle.pcef_lock.proofs.Commanded.{due_alone}
 use Rattle.pcef_lock.specs.Locked.{Locked}
 use Rattle.pcef_lock.proofs.shared.Shared.command.Goals as goal

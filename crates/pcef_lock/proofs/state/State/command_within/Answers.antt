@@ -4,7 +4,7 @@ use Rattle.pcef_model.specs.Refusals.{total_now}
 use Rattle.pcef_session.specs.Preparing.{table_made}
 use Rattle.pcef_session.proofs.RoomRates.{does_not_within, does_within, lacks_within}
 use Rattle.pcef_publish.proofs.Runs.{prefix_self}
-use Rattle.pcef_pool.specs.Pools.{room_beside}
+use Rattle.pcef_share.specs.Pools.{room_beside}
 use Rattle.pcef_lock.proofs.Commanded.{grown_by}
 use Rattle.pcef_share.specs.Amounts.{Account}
 use Rattle.pcef_lock.proofs.Keeps.{locked, next_published, settled_gains, sound_same, sound_settled}

@@ -7,7 +7,7 @@ use Rattle.pcef_model.specs.Lawful.{Lawful}
 use Rattle.pcef_model.specs.Setting.{Setting}
 use Rattle.pcef_journaled.specs.Archiving.{Archives}
 use Rattle.pcef_share.specs.Amounts.{sums, zeros}
-use Rattle.pcef_pool.specs.Pools.{rates_due}
+use Rattle.pcef_share.specs.Pools.{rates_due}
 use Rattle.pcef_handover.specs.Counting.{slot_total}
 use Rattle.pcef_lock.specs.Gathering.{AgreeWith, AreGathered, CanGather, gathered, key_totals, key_total}
 use Rattle.pcef_lock.specs.declared.key_totals.KeyTotal.{KeyTotal}

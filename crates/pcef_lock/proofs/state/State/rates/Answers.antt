@@ -1,6 +1,6 @@
 use Rattle.std.proofs.Common.{◌≡◌, ◌∙◌, ap, subst}
 use Rattle.pcef_model.specs.Setting.{Setting}
-use Rattle.pcef_pool.specs.Pools.{rates_due}
+use Rattle.pcef_share.specs.Pools.{rates_due}
 use Rattle.pcef_lock.specs.Locked.{Locked}
 use Rattle.pcef_lock.proofs.state.State.rates.Goals as goal
 

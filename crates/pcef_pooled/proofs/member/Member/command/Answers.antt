@@ -5,8 +5,8 @@ use Rattle.pcef_model.specs.Refusals.{first_of}
 use Rattle.pcef_session.specs.Answers.{AnswersCommandWithin}
 use Rattle.pcef_session.specs.SessionModel.{SessionModel}
 use Rattle.pcef_session.proofs.RoomRates.{does_not_within, does_within, settled_fits}
-use Rattle.pcef_pool.specs.Pools.{IsPart, pool_faults, room_beside}
-use Rattle.pcef_pool.proofs.Within.{held_fits, pool_gives}
+use Rattle.pcef_share.specs.Pools.{IsPart, pool_faults, room_beside}
+use Rattle.pcef_share.proofs.Within.{held_fits, pool_gives}
 use Rattle.pcef_pooled.specs.Granting.{rates_of}
 use Rattle.pcef_pooled.proofs.Granted.{never_full, room_is}
 use Rattle.pcef_pooled.proofs.member.Member.command.Goals as goal

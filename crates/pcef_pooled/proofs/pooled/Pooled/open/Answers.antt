@@ -1,6 +1,6 @@
 use Rattle.std.proofs.Common.{rules, ◌≡◌, ◌∙◌, ◌<◌, ◌≤◌, ap, inl, inr, length, refl, subst, List, None, Some, false, true}
 use Rattle.pcef_model.specs.Refusals.{first_of}
-use Rattle.pcef_pool.specs.Pools.{PoolModel}
+use Rattle.pcef_share.specs.Pools.{PoolModel}
 use Rattle.pcef_pooled.specs.Opening.{Asked, list_faults}
 use Rattle.pcef_pooled.proofs.Opened.{as_many, nothing_granted, opens, out_of_range, session_told}
 use Rattle.pcef_pooled.proofs.pooled.Pooled.open.Goals as goal

@@ -7,7 +7,7 @@ use Rattle.pcef_model.proofs.NewLanes.{new_lane}
 use Rattle.std.specs.Prelude.{Err, None, Ok}
 use Rattle.pcef_model.specs.Outcomes.{AttachStep}
 use Rattle.pcef_model.specs.declared.answer.AttachFault.TheVariants.{NoMemory}
-use Rattle.pcef_lane.proofs.LaneEnds.{attached_len, lanes_count}
+use Rattle.pcef_journal.proofs.LaneEnds.{attached_len, lanes_count}
 use Rattle.pcef_session.specs.SessionModel.{SessionModel}
 use Rattle.pcef_session.proofs.Leaving.{attach_few, attach_lacks, attach_next, attach_refused, ok_of}
 use Rattle.pcef_session.proofs.InvariantKept.{sound_attached}

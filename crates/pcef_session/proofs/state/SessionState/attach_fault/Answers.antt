@@ -3,7 +3,7 @@ use Rattle.std.specs.Prelude.{Some}
 use Rattle.pcef_model.specs.Journals.{attach_count}
 use Rattle.pcef_model.specs.Refusals.{attach_faults, first_of}
 use Rattle.pcef_model.specs.declared.answer.AttachFault.TheVariants.{NoPlace}
-use Rattle.pcef_lane.proofs.LaneEnds.{lanes_count}
+use Rattle.pcef_journal.proofs.LaneEnds.{lanes_count}
 use Rattle.pcef_session.specs.SessionModel.{SessionModel}
 use Rattle.pcef_session.proofs.Leaving.{attach_accepted, attach_ended, attach_full}
 use Rattle.pcef_session.proofs.state.SessionState.attach_fault.Goals as goal

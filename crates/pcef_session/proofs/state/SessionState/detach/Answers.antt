@@ -1,6 +1,6 @@
 use Rattle.std.proofs.Common.{◌≡◌, refl, subst, sym, true}
 use Rattle.pcef_model.specs.Refusals.{is_attached}
-use Rattle.pcef_lane.proofs.LaneEnds.{attached_came}
+use Rattle.pcef_journal.proofs.LaneEnds.{attached_came}
 use Rattle.pcef_session.specs.SessionModel.{SessionModel}
 use Rattle.pcef_session.proofs.InvariantKept.{sound_left}
 use Rattle.pcef_session.proofs.state.SessionState.detach.Goals as goal

@@ -1,6 +1,6 @@
 use Rattle.std.proofs.Common.{◌≡◌, ◌∙◌, sym, subst}
 use Rattle.pcef_model.specs.Refusals.{is_attached}
-use Rattle.pcef_lane.proofs.LaneEnds.{attached_is}
+use Rattle.pcef_journal.proofs.LaneEnds.{attached_is}
 use Rattle.pcef_session.specs.SessionModel.{SessionModel}
 use Rattle.pcef_session.proofs.state.SessionState.is_attached.Goals as goal
 

@@ -6,9 +6,9 @@ use Rattle.pcef_model.specs.Lawful.{Lawful}
 use Rattle.pcef_model.specs.Setting.{Setting}
 use Rattle.pcef_model.specs.ProfileModel.{setting_of}
 use Rattle.pcef_model.proofs.NewLanes.{past_lane}
-use Rattle.pcef_lane.specs.declared.lanes.LaneEnd.{LaneEnd}
-use Rattle.pcef_lane.specs.Lanes.{LanesAgree, end_of, lane_end}
-use Rattle.pcef_lane.proofs.LaneEnds.{end_found}
+use Rattle.pcef_journal.specs.declared.lanes.LaneEnd.{LaneEnd}
+use Rattle.pcef_journal.specs.Lanes.{LanesAgree, end_of, lane_end}
+use Rattle.pcef_journal.proofs.LaneEnds.{end_found}
 use Rattle.pcef_session.specs.SessionModel.{SessionModel}
 use Rattle.pcef_session.proofs.state.SessionState.lane_end.Goals as goal
 

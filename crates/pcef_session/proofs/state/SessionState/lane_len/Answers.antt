@@ -2,7 +2,7 @@ use Rattle.std.proofs.Common.{◌≡◌, ◌∙◌, subst}
 use Rattle.pcef_model.specs.Journals.{lane_len}
 use Rattle.pcef_model.specs.ProfileModel.{setting_of}
 use Rattle.pcef_model.proofs.NewLanes.{past_lane}
-use Rattle.pcef_lane.proofs.LaneEnds.{rows_is}
+use Rattle.pcef_journal.proofs.LaneEnds.{rows_is}
 use Rattle.pcef_session.specs.SessionModel.{SessionModel}
 use Rattle.pcef_session.proofs.state.SessionState.lane_len.Goals as goal
 

@@ -1,7 +1,7 @@
 use Rattle.std.proofs.Common.{ap}
 use Rattle.pcef_model.proofs.Lanes.{lane_few}
-use Rattle.pcef_lane.specs.declared.lanes.LaneEnd.{LaneEnd}
-use Rattle.pcef_lane.proofs.LaneEnds.{attached_came, attached_len, end_is}
+use Rattle.pcef_journal.specs.declared.lanes.LaneEnd.{LaneEnd}
+use Rattle.pcef_journal.proofs.LaneEnds.{attached_came, attached_len, end_is}
 use Rattle.pcef_session.proofs.Leaving.{attached_accepted}
 use Rattle.std.proofs.Common.{◌≡◌, ◌+◌, ◌≤◌, sym, subst, refl, arith, length, map, None}
 use Rattle.pcef_model.specs.Entries.{rows}

@@ -1,8 +1,8 @@
 use Rattle.std.proofs.Common.{◌≡◌, arith, filter, length, subst}
 use Rattle.std.proofs.lemmas.Result.{on_ok_weaker}
 use Rattle.pcef_model.specs.Journals.{attached}
-use Rattle.pcef_lane.specs.declared.lanes.LaneEnd.{LaneEnd}
-use Rattle.pcef_lane.proofs.LaneEnds.{attached_len}
+use Rattle.pcef_journal.specs.declared.lanes.LaneEnd.{LaneEnd}
+use Rattle.pcef_journal.proofs.LaneEnds.{attached_len}
 use Rattle.pcef_session.specs.SessionModel.{SessionModel}
 use Rattle.pcef_session.proofs.state.SessionState.take_room.Goals as goal
 

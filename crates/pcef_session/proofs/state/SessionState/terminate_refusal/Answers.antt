@@ -3,7 +3,7 @@ use Rattle.pcef_model.specs.declared.command.Command.TheVariants.{Terminate}
 use Rattle.pcef_model.specs.declared.answer.Refusal.TheVariants.{WorkersAttached}
 use Rattle.pcef_model.specs.Refusals.{first_of, own_refusals}
 use Rattle.pcef_model.specs.ProfileModel.{setting_of}
-use Rattle.pcef_lane.proofs.LaneEnds.{attached_len}
+use Rattle.pcef_journal.proofs.LaneEnds.{attached_len}
 use Rattle.pcef_session.specs.SessionModel.{SessionModel}
 use Rattle.pcef_session.proofs.Leaving.{terminate_free, terminate_refused}
 use Rattle.pcef_session.proofs.state.SessionState.terminate_refusal.Goals as goal

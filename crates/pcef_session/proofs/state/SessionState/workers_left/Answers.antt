@@ -1,6 +1,6 @@
 use Rattle.std.proofs.Common.{◌≡◌, arith, length, sym, subst}
 use Rattle.pcef_model.specs.Journals.{attach_count}
-use Rattle.pcef_lane.proofs.LaneEnds.{lanes_count}
+use Rattle.pcef_journal.proofs.LaneEnds.{lanes_count}
 use Rattle.pcef_session.specs.SessionModel.{SessionModel}
 use Rattle.pcef_session.proofs.state.SessionState.workers_left.Goals as goal
 

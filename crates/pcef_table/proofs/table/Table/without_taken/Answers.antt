@@ -1,6 +1,6 @@
 use Rattle.std.proofs.Common.{◌≡◌, ◌≤◌, ap, arith, length, not}
 use Rattle.pcef_table.specs.Tables.{TableValue, is_taken, without_taken}
-use Rattle.pcef_lists.proofs.Keeping.{filter_length}
+use Rattle.pcef_base.proofs.Keeping.{filter_length}
 use Rattle.pcef_table.proofs.Ordered.{part_is_table}
 use Rattle.pcef_table.proofs.table.Table.without_taken.Goals as goal
 

@@ -1,2 +1,0 @@
-pub mod LaneEnds
-pub mod Present

@@ -1,4 +1,0 @@
-pub mod Bearing
-pub mod Deciding
-pub mod Places
-pub mod Reporting
