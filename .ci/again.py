@@ -6,7 +6,7 @@ import signal
 import subprocess
 import time
 
-from brokers import MANY, PROFILE, Kafka, await_for, fail
+from brokers import PCEF, PROFILE, Kafka, await_for, fail
 
 KILLS, MOVES, SESSIONS = 25, 10, 1000
 AT_MOST = 2.0
@@ -107,7 +107,7 @@ def lives(seed, count, names=12, ends=1.5):
 
 
 def due_answers(lines):
-    told = subprocess.run([MANY, PROFILE], input=b"".join(lines), stdout=subprocess.PIPE, check=True).stdout
+    told = subprocess.run([PCEF, "many", PROFILE], input=b"".join(lines), stdout=subprocess.PIPE, check=True).stdout
     return [tuple(answer.split(b" ", 1)) for answer in told.splitlines()]
 
 
@@ -141,7 +141,7 @@ def before(engine, name, filter_words):
     file = os.path.join(engine.room, name)
     with open(file, "w", encoding="utf-8") as text:
         text.write(f"""#!/bin/sh
-{filter_words} | '{MANY}' "$1"
+{filter_words} | '{PCEF}' "$@"
 """)
     os.chmod(file, 0o700)
     return file
@@ -268,7 +268,7 @@ def passed_over(engine):
     file = os.path.join(engine.room, "got")
     program = before(engine, "counting", f"tee '{file}'")
     engine.send_all(show, 2)
-    process = engine.serve(2, many=program)
+    process = engine.serve(2, pcef=program)
     await_for(20, "the answer behind", lambda: engine.has_answered(2, len(lines) + 1))
     engine.ended_by_term(process, 0)
     compare(engine, 2, lines + show)

@@ -10,7 +10,7 @@ import zlib
 
 HERE = "examples/scale_out"
 PROFILE = "examples/profile.toml"
-MANY = os.path.abspath(os.environ.get("PCEF_MANY", "crates/pcef_many/out/pcef_many"))
+PCEF = os.path.abspath(os.environ.get("PCEF", "crates/pcef_cli/out/pcef_cli"))
 PARTITIONS = 4
 
 
@@ -40,10 +40,10 @@ class Engine:
         if subprocess.run([*words, *sources, self.library, "-ljansson"]).returncode:
             fail(f"{self.source}.c isn't built")
 
-    def start(self, *words, many=MANY, **environment):
+    def start(self, *words, pcef=PCEF, **environment):
         """Starts a program, which writes to a file of its own, `said`."""
         with open(os.path.join(self.room, f"said.{len(self.started)}"), "wb") as said:
-            environment = {**os.environ, "PCEF_MANY": many, **environment}
+            environment = {**os.environ, "PCEF": pcef, **environment}
             process = subprocess.Popen(words, stdin=subprocess.DEVNULL, stdout=said, stderr=said, env=environment)
             process.said = said.name
         self.started.append(process)

@@ -101,7 +101,7 @@ size_t pcef_forget(pcef_session *at);
  * line `terminate`, and in its place stands a new one of the same profile, which has taken commands that make it go on:
  * the same rules are active, the same keys on, with the rest of their grants, and the same events subscribed. So a
  * session goes on beyond the rows, commands, keys and workers of one life. Let each worker finish before, and attach
- * again: the new session has the handle's next number (pcef_number). The answer, as of pcef_many (docs/FORMATS.md, 'Many
+ * again: the new session has the handle's next number (pcef_number). The answer, as of pcef many (docs/FORMATS.md, 'Many
  * sessions'), has each bearer's old and new number beside 5, and all reports that weren't forgotten, those of the end
  * last: read them here, for no other call has them any more. Where the others were forgotten, 4,096 octets are ample. Or
  * it says why the session isn't renewed, and then nothing changes: it was terminated, workers are attached, or the new

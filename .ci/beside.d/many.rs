@@ -1,4 +1,4 @@
-//! A peer: a plain program that answers the lines of `scripts.py` for many sessions, octet for octet as `pcef_many` does,
+//! A peer: a plain program that answers the lines of `scripts.py` for many sessions, octet for octet as `pcef many` does,
 //! and knows no others: one thread, std's map, a parser by hand, no faults, no reports. It stops at a line that it doesn't
 //! know.
 //!

@@ -107,7 +107,7 @@ def many_lines(sessions, count):
 
 
 def frame(name, kind, body):
-    """A frame of `pcef_many --frames` (docs/FORMATS.md, 'Many sessions')."""
+    """A frame of `pcef many --frames` (docs/FORMATS.md, 'Many sessions')."""
     inner = bytes([len(name)]) + name + bytes([kind]) + body
     return struct.pack(">I", len(inner)) + inner
 

@@ -29,13 +29,13 @@ static void catch_signals(void) {
 
 /* In the new process: it has a group of its own, so that Ctrl-C reaches it by the end of its input alone. */
 static void become(const char *profile, int lines, int answers) {
-    const char *program = getenv("PCEF_MANY");
-    if (!program) program = "pcef_many";
+    const char *program = getenv("PCEF");
+    if (!program) program = "pcef";
     signal(SIGPIPE, SIG_DFL);
     setpgid(0, 0);
     dup2(lines, 0);
     dup2(answers, 1);
-    execlp(program, program, profile, (char *)NULL);
+    execlp(program, program, "many", profile, (char *)NULL);
     perror(program);
     _exit(127);
 }

@@ -1,4 +1,4 @@
-/* `pcef_many` behind two pipes, in one thread: it gets a line, and gives its answer before it gets the next one. */
+/* `pcef many` behind two pipes, in one thread: it gets a line, and gives its answer before it gets the next one. */
 #ifndef PROGRAM_H
 #define PROGRAM_H
 
@@ -15,7 +15,7 @@ struct program {
     int status;
 };
 
-/* Starts $PCEF_MANY, or the `pcef_many` that is found on the path, with a profile. False where the system refuses. */
+/* Starts `pcef many` with a profile: the program is $PCEF, or `pcef` on the path. False where the system refuses. */
 bool program_starts(struct program *it, const char *profile);
 
 /* Why a message can't be a line, as an answer; or NULL. A right name has 1 to 64 octets from 0x21 to 0x7E, so the line

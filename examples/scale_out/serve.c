@@ -12,8 +12,8 @@
  * on, or from the first line on where there is none. It passes over a session's lines below its own offset, and answers
  * only the lines from the committed one on.
  *
- * SIGTERM ends it after the answers to what it read. It ends with the status of its program, which is $PCEF_MANY, or
- * `pcef_many` on the path; with 2 for wrong words, with 4 where the brokers fail, or lines or records don't fit.
+ * SIGTERM ends it after the answers to what it read. It ends with the status of its program, `pcef many`, where $PCEF
+ * names `pcef`, or it is on the path; with 2 for wrong words, with 4 where the brokers fail, or lines or records don't fit.
  *
  *     cc -O2 -o serve serve.c sessions.c program.c -lrdkafka -ljansson
  */

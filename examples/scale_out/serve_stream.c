@@ -11,8 +11,8 @@
  * or from the first entry on where there is none. It passes over a session's lines up to its own identifier, and
  * answers only the entries behind `served:PARTITION`. So no answer comes twice.
  *
- * SIGTERM ends it after the answers to what it read. It ends with the status of its program, which is $PCEF_MANY, or
- * `pcef_many` on the path; with 2 for wrong words, with 4 where Redis fails, or entries or records don't fit.
+ * SIGTERM ends it after the answers to what it read. It ends with the status of its program, `pcef many`, where $PCEF
+ * names `pcef`, or it is on the path; with 2 for wrong words, with 4 where Redis fails, or entries or records don't fit.
  *
  *     cc -O2 -o serve_stream serve_stream.c sessions.c program.c -lhiredis -ljansson
  */

@@ -3,7 +3,7 @@
 #include <stdlib.h>
 #include <string.h>
 
-/* As `pcef_many` reads: any string, any number, and of a key that stands twice the last value. Numbers are looked at by
+/* As `pcef many` reads: any string, any number, and of a key that stands twice the last value. Numbers are looked at by
  * nobody here, and a grant may be beyond jansson's integers. */
 enum { AS_THE_PROGRAM = JSON_ALLOW_NUL | JSON_DECODE_INT_AS_REAL };
 
