@@ -1,12 +1,15 @@
 pub mod Bits
 pub mod Blocks
 pub mod DigitLaws
-pub mod Fitting
+pub mod Firsts
+pub mod Entries
 pub mod Growing
 pub mod Keeping
 pub mod Matching
 pub mod Numbering
+pub mod Parting
 pub mod Places
 pub mod Placing
 pub mod Searching
+pub mod Standing
 pub mod Stepping

@@ -89,3 +89,14 @@ line_fails test numbers j l there fails = ap (λ (o : Option ℕ). option_map_or
 
 pub past_fails : (test : ℕ → Bool) (numbers : List ℕ) (j : ℕ) → length numbers ≤ j → passes_at test numbers j ≡ false
 past_fails test numbers j past = ap (λ (o : Option ℕ). option_map_or test o false) (slice_get_past numbers j past)
+
+weaker_at : {X : Type 0} (strong weak : X → Bool) → ((x : X) → strong x ≡ true → weak x ≡ true) → (o : Option X) → option_map_or strong o false ≡ true → option_map_or weak o false ≡ true
+weaker_at strong weak less None passes = absurd (cc)
+weaker_at strong weak less (Some x) passes = less x passes
+
+-- a word that has the bits of all lines that pass a test has those of the lines that pass a stronger one
+pub sieved_stronger : (strong weak : Line → Bool) (lines : List Line) (numbers : List ℕ) (from word : ℕ) → ((l : Line) → strong l ≡ true → weak l ≡ true)
+    → AreSieved (fits_at weak lines) numbers from word → AreSieved (fits_at strong lines) numbers from word
+sieved_stronger strong weak lines numbers from word less sieved i small passes =
+    sieved i small
+    (weaker_at (fits_at strong lines) (fits_at weak lines) (λ n fits. weaker_at strong weak less (slice_get lines n) fits) (slice_get numbers (from + i)) passes)

@@ -53,8 +53,8 @@ pub cell_grows : (steps : Steps) (a b : ℕ) → a ≤ b → b < 2 ^ 16 → step
 unfolding cell_of
 cell_grows steps a b less small =
     elim (cases_Bool (nat_lt (length steps.starts.items) 257)) [
-      | inl none ↦ rw none (omega arith)
-      | inr some ↦ rw some (placed_grows (steps.placed (ltb-false (length steps.starts.items) 257 some)) a b less small)
+      | inl few ↦ rw few (count_grows a b steps.ports.items less)
+      | inr many ↦ rw many (placed_grows (steps.placed (ltb-false (length steps.starts.items) 257 many)) a b less small)
     ]
 
 -- a port that is in some ranges and one more is in these or in that one

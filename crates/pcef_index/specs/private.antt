@@ -1,5 +1,7 @@
 pub mod AllSieves
+pub mod Bases
 pub mod Digits
+pub mod Firsts
 pub mod Indexes
 pub mod Kinds
 pub mod Lines

@@ -5,7 +5,7 @@ ghost use Rattle.std.specs.Prelude.{◌≡◌, ◌↔◌, IsTrue};
 use pcef_table::Source;
 
 /// Whether two rules are equal and of the same kind.
-fn is_equal(a: &Source, b: &Source) -> bool
+pub(crate) fn is_equal(a: &Source, b: &Source) -> bool
     ensures { IsTrue result ↔ (a.now ≡ b.now) }
 {
     match (a, b) {

@@ -6,15 +6,10 @@ ghost use Rattle.pcef_table.specs.Sources.{IsKnown, source_fits};
 ghost use Rattle.pcef_table.specs.Tables.{IsTable};
 ghost use Rattle.pcef_table.specs.Verdicts.{IsVerdict};
 ghost use Rattle.pcef_index.specs.Candidates.{is_candidate, places_from};
-ghost use Rattle.pcef_index.specs.declared.lines.Line.{Line};
-ghost use Rattle.pcef_index.specs.private.AllSieves.{AreServed};
-ghost use Rattle.pcef_index.specs.private.Indexes.{IsSievedOf};
-ghost use Rattle.pcef_index.specs.private.Lines.{line_fits};
+ghost use Rattle.pcef_index.specs.private.Indexes.{IsBased};
 
+use crate::based::{Based, line_count};
 use crate::candidates::is_candidate;
-use crate::kinds::kind_of;
-use crate::lines::{Line, lines_of};
-use crate::sieves::Sieves;
 use arrayvec::ArrayVec;
 use pcef_catalog::{Detects, Offers};
 use pcef_model::Verdict;
@@ -28,10 +23,10 @@ const MOST_SEARCHED: usize = 16;
 
 /// The compiled index of a table. Contracts see the rules of the table's entries, in order. It keeps copies of the
 /// rules, which share their filters, so that its answers are about these rules, whatever becomes of the table. A few
-/// filters are searched one after the other, and have no sieve.
+/// filters are searched one after the other, and have no base.
 pub struct Index {
     sources: Vec<Source>,
-    sieved: Option<Sieved>,
+    based: Option<Based>,
 }
 
 // Written out, so that an owner proves one call on each return path.
@@ -39,7 +34,7 @@ impl Drop for Index {
     fn drop(self) {
         let Index {
             sources: _,
-            sieved: _,
+            based: _,
         } = self;
     }
 }
@@ -53,7 +48,7 @@ impl Model for Index {
 
     ghost view = { λ i. i.sources.items };
 
-    ghost invariant = { λ i. IsIndexed i.sources.items i.sieved };
+    ghost invariant = { λ i. IsIndexed i.sources.items i.based };
 }
 
 /// Appends a place if its rule passes.
@@ -63,14 +58,6 @@ fn push_if(places: &mut ArrayVec<u8, 64>, place: u8, passes: bool)
 {
     if passes {
         places.push(place);
-    }
-}
-
-/// How many lines a rule has in a sieve.
-fn line_count(source: &Source) -> usize {
-    match source {
-        Source::Dynamic(rule) => rule.filters().len(),
-        Source::Predefined(_) => 1,
     }
 }
 
@@ -87,73 +74,58 @@ fn are_few(sources: &[Source]) -> bool {
     true
 }
 
-/// The lines of some rules, with the sieves of all kinds of packets.
-#[derive(Drop)]
-struct Sieved {
-    lines: Vec<Line>,
-    sieves: Sieves,
-}
-
-/// The lines of some rules, with their sieves.
-fn sieved_of(alloc: Global, sources: &[Source]) -> Result<Sieved, AllocError>
+/// The rules with a base, if they have many filters: that of older rules, where most of these are among them.
+fn based_if_many(
+    alloc: Global,
+    older: Option<&Based>,
+    sources: &[Source],
+) -> Result<Option<Based>, AllocError>
     requires { length sources.now ≤ 64 }
-    ensures { IfOk result (IsSievedOf sources.now) }
-{
-    let lines = lines_of(alloc, sources)?;
-    let sieves = Sieves::new(alloc, &lines)?;
-    Ok(Sieved { lines, sieves })
-}
-
-/// The lines of some rules with their sieves, if they have many filters.
-fn sieved_if_many(alloc: Global, sources: &[Source]) -> Result<Option<Sieved>, AllocError>
-    requires { length sources.now ≤ 64 }
-    ensures { IfOk result (λ s. IfSome s (IsSievedOf sources.now)) }
+    ensures { IfOk result (λ b. IfSome b (IsBased sources.now)) }
 {
     if are_few(sources) {
-        Ok(None)
-    } else {
-        Ok(Some(sieved_of(alloc, sources)?))
+        return Ok(None);
     }
+    let based = match older {
+        None => Based::new(alloc, sources)?,
+        Some(older) => Based::after(alloc, older, sources)?,
+    };
+    Ok(Some(based))
 }
 
-/// The index of some rules, at most as many as a table has.
-pub(crate) fn index_of(alloc: Global, sources: Vec<Source>) -> Result<Index, AllocError>
+/// The index of some rules, at most as many as a table has. It takes over what it can of an older one.
+pub(crate) fn index_of(
+    alloc: Global,
+    older: Option<&Index>,
+    sources: Vec<Source>,
+) -> Result<Index, AllocError>
     requires { length sources.items ≤ 64 }
     ensures { IfOk result (λ i. i ≡ sources.items) }
 {
-    let sieved = sieved_if_many(alloc, &sources)?;
-    Ok(Index { sources, sieved })
-}
-
-/// The place of the rule of the first line that fits.
-#[inline(always)]
-fn first_place<C: Detects>(sieved: &Sieved, catalog: &C, ue: &Addr, header: &Header) -> Option<u8>
-    requires { AreServed sieved.now.lines.items sieved.now.sieves }
-    ensures { result ≡ option_map (λ (l : Line). l.place)
-        (find (line_fits (C.offers catalog.now) ue.now header.now) sieved.now.lines.items) }
-{
-    match sieved.sieves.of(kind_of(header)) {
+    let older = match older {
+        Some(index) => index.based.as_ref(),
         None => None,
-        Some(sieve) => sieve.first_place(&sieved.lines, catalog, ue, header),
-    }
+    };
+    let based = based_if_many(alloc, older, &sources)?;
+    Ok(Index { sources, based })
 }
 
-/// The first entry of a table that fits, behind its place, by the sieves of its rules.
-fn first_sieved<'a, C: Detects>(
-    sieved: &Sieved,
+/// The first entry of a table that fits, behind its place, by the bases of its rules.
+fn first_based<'a, C: Detects>(
+    based: &Based,
     table: &'a Table,
     catalog: &C,
     ue: &Addr,
     header: &Header,
 ) -> Option<(u8, &'a TableEntry)>
     requires table { IsTable (C.offers catalog.now) table.now.entries }
-    requires sieved { IsSievedOf (map (λ e. e.source) table.now.entries) sieved.now }
+    requires based { IsBased (map (λ e. e.source) table.now.entries) based.now }
     ensures known { IfSome result (λ found. IsKnown (C.offers catalog.now) found.1.now.source) }
     ensures first { option_map (λ found. found.1.now) result
         ≡ find (λ e. source_fits (C.offers catalog.now) ue.now header.now e.source) table.now.entries }
     ensures place { IfSome result (λ found. slice_get table.now.entries found.0 ≡ Some found.1.now) }
 {
-    let Some(place) = first_place(sieved, catalog, ue, header) else {
+    let Some(place) = based.first_place(catalog, ue, header) else {
         return None;
     };
     let Some(entry) = table.entry(usize::from(place)) else {
@@ -168,8 +140,15 @@ impl Index {
     pub fn build<C: Offers>(alloc: Global, table: &Table, _catalog: &C) -> Result<Index, AllocError>
         ensures { IfOk result (λ i. i ≡ map (λ e. e.source) table.now.entries) }
     {
-        let sources = table.sources(alloc)?;
-        index_of(alloc, sources)
+        index_of(alloc, None, table.sources(alloc)?)
+    }
+
+    /// The index of a table that comes after this one's, or out of memory. Where most rules are those of an older table,
+    /// it looks these up as that table does, and takes memory for the others alone.
+    pub(crate) fn after(&self, alloc: Global, table: &Table) -> Result<Index, AllocError>
+        ensures { IfOk result (λ i. i ≡ map (λ e. e.source) table.now.entries) }
+    {
+        index_of(alloc, Some(self), table.sources(alloc)?)
     }
 
     /// The rules, in order.
@@ -179,9 +158,9 @@ impl Index {
         &self.sources
     }
 
-    /// Whether there is a sieve. It takes memory for each 64 filters.
-    pub(crate) fn is_sieved(&self) -> bool {
-        self.sieved.is_some()
+    /// Whether there is a base. Its sieves take memory for each 64 filters.
+    pub(crate) fn is_based(&self) -> bool {
+        self.based.is_some()
     }
 
     /// The first entry of the table that fits, behind its place.
@@ -199,9 +178,9 @@ impl Index {
             ≡ find (λ e. source_fits (C.offers catalog.now) ue.now header.now e.source) table.now.entries }
         ensures place { IfSome result (λ found. slice_get table.now.entries found.0 ≡ Some found.1.now) }
     {
-        match &self.sieved {
+        match &self.based {
             None => table.first_fitting(catalog, ue, header),
-            Some(sieved) => first_sieved(sieved, table, catalog, ue, header),
+            Some(based) => first_based(based, table, catalog, ue, header),
         }
     }
 

@@ -86,7 +86,7 @@ impl Indexed {
         ensures session { IfOk result (λ i. i.session ≡ no_slots) }
     {
         let table = Table::empty(alloc, generation)?;
-        let index = Arc::new(alloc, index_of(alloc, Vec::new(alloc))?)?;
+        let index = Arc::new(alloc, index_of(alloc, None, Vec::new(alloc))?)?;
         Ok(Indexed {
             table,
             index,
@@ -99,6 +99,19 @@ impl Indexed {
         ensures { IfOk result (λ i. i ≡ table) }
     {
         let index = Arc::new(alloc, Index::build(alloc, &table, catalog)?)?;
+        Ok(Indexed {
+            table,
+            index,
+            is_shelved: false,
+        })
+    }
+
+    /// The table of a later generation with its index, which takes over what it can of this one's. When out of memory, the
+    /// table is dropped.
+    pub fn after(&self, alloc: Global, table: Table) -> Result<Indexed, AllocError>
+        ensures { IfOk result (λ i. i ≡ table) }
+    {
+        let index = Arc::new(alloc, self.index.after(alloc, &table)?)?;
         Ok(Indexed {
             table,
             index,
@@ -135,7 +148,7 @@ impl Indexed {
 
     /// Whether the index takes memory that other tables could share, and was on no shelf yet.
     pub(crate) fn is_to_share(&self) -> bool {
-        self.index.is_sieved() && !self.is_shelved
+        self.index.is_based() && !self.is_shelved
     }
 
     /// A copy of the index for a shelf, which shares its memory. Fails when out of memory.

@@ -5,9 +5,11 @@
 //! and which entries may match a header; that a shared index changes nothing.
 //!
 //! In the order of reading: `candidates`, `rule_filter`, `lines`, `sides`, `kinds`, `words`, `digits`, `ends`, `steps`,
-//! `choosing`, `rows`, `sieve`, `sieves`, `index`, `indexed`, `equal`, `fingerprint`, `shelf`.
+//! `choosing`, `rows`, `sieve`, `sieves`, `base`, `equal`, `part`, `based`, `index`, `indexed`, `fingerprint`, `shelf`.
 #![tactic(auto)]
 
+mod base;
+mod based;
 mod candidates;
 mod choosing;
 mod digits;
@@ -18,6 +20,7 @@ mod index;
 mod indexed;
 mod kinds;
 mod lines;
+mod part;
 mod rows;
 mod rule_filter;
 mod shelf;

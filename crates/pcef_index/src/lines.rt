@@ -1,7 +1,7 @@
 //! The lines of rules. A line is what can fit a packet: a filter of a dynamic rule, or a predefined rule.
 
 ghost use Rattle.std.specs.Prelude.{◌≡◌, ◌<◌, ◌≤◌, ◌++◌, length, IfOk, OnOk};
-ghost use Rattle.pcef_index.specs.private.Lines.{filter_lines, line_fits, lines_from, source_lines};
+ghost use Rattle.pcef_index.specs.private.Lines.{filter_lines, line_fits, lines_from, source_lines, standing_fits, stands};
 
 use crate::rule_filter::RuleFilter;
 use pcef_catalog::Detects;
@@ -37,6 +37,41 @@ impl Line {
             Part::Filter(filter) => filter.get().matches_for(ue, header),
             Part::Offer(index) => catalog.detects(*index, header),
         }
+    }
+}
+
+/// Whether the rule that had a place still stands at one.
+fn stands(places: &[Option<u8>], place: u8) -> bool
+    ensures { result ≡ stands places.now place }
+{
+    match places.get(usize::from(place)) {
+        Some(now) => now.is_some(),
+        None => false,
+    }
+}
+
+/// Lines, and where their rules stand among others.
+#[derive(Clone, Copy)]
+pub(crate) struct Standing<'a> {
+    /// The lines.
+    pub lines: &'a [Line],
+    /// For each place of a rule that has lines its place among the others, if it is there.
+    pub places: &'a [Option<u8>],
+}
+
+impl Standing<'_> {
+    /// Whether the part of a line fits a packet, and its rule is there.
+    #[inline(always)]
+    pub(crate) fn fits<C: Detects>(
+        &self,
+        line: &Line,
+        catalog: &C,
+        ue: &Addr,
+        header: &Header,
+    ) -> bool
+        ensures { result ≡ standing_fits self.now.places.now (C.offers catalog.now) ue.now header.now line.now }
+    {
+        line.fits(catalog, ue, header) && stands(self.places, line.place)
     }
 }
 

@@ -8,7 +8,7 @@ ghost use Rattle.pcef_packet.specs.declared.header.Addr.{Addr};
 ghost use Rattle.pcef_packet.specs.declared.header.Header.{Header};
 ghost use Rattle.pcef_index.specs.private.Digits.{AreDigits, LetsAddr};
 ghost use Rattle.pcef_index.specs.private.Kinds.{version_of};
-ghost use Rattle.pcef_index.specs.private.Lines.{line_fits};
+ghost use Rattle.pcef_index.specs.private.Lines.{line_fits, standing_fits};
 ghost use Rattle.pcef_index.specs.private.Rows.{AreRows, LetsNumber};
 ghost use Rattle.pcef_index.specs.private.Sides.{addr_on};
 ghost use Rattle.pcef_index.specs.declared.sides.Side.TheVariants as Side;
@@ -19,7 +19,7 @@ use crate::choosing::{proto_of, proto_steps, steps_on};
 use crate::digits::Digits;
 use crate::ends::Ends;
 use crate::kinds::{Class, Kind, Version, numbers_of};
-use crate::lines::{Line, Part};
+use crate::lines::{Line, Part, Standing};
 use crate::rows::Rows;
 use crate::sides::{Side, addr_on, end_on, port_on};
 use crate::steps::Steps;
@@ -42,6 +42,15 @@ pub(crate) struct Free {
     pub remote_port: u64,
     /// The user equipment's port.
     pub local_port: u64,
+}
+
+/// The lines of a block that let a packet pass.
+#[derive(Clone, Copy)]
+struct Passed {
+    /// The number of the block.
+    block: usize,
+    /// A bit for each of its 64 lines.
+    word: u64,
 }
 
 /// The rows of a packet, where there are rows.
@@ -423,29 +432,29 @@ impl Sieve {
         }
     }
 
-    /// The place of the rule of the first line that fits among the lines of a block whose bits are set.
+    /// The place of the rule of the first line that fits, and whose rule still stands, among those of a block that let a
+    /// packet pass.
     #[inline(always)]
     fn first_in<C: Detects>(
         &self,
-        lines: &[Line],
-        block: usize,
-        word: u64,
+        standing: Standing<'_>,
+        passed: Passed,
         catalog: &C,
         ue: &Addr,
         header: &Header,
     ) -> Option<u8>
-        requires few { block * 64 + 64 < 2 ^ 64 }
-        requires sieved { AreSieved (fits_at (line_fits (C.offers catalog.now) ue.now header.now) lines.now)
-            self.now.numbers.items (block * 64) word }
-        ensures { IsFirstIn (line_fits (C.offers catalog.now) ue.now header.now) lines.now
-            self.now.numbers.items (block * 64) result }
+        requires few { passed.block * 64 + 64 < 2 ^ 64 }
+        requires sieved { AreSieved (fits_at (line_fits (C.offers catalog.now) ue.now header.now) standing.lines.now)
+            self.now.numbers.items (passed.block * 64) passed.word }
+        ensures { IsFirstIn (standing_fits standing.entry.places.now (C.offers catalog.now) ue.now header.now)
+            standing.entry.lines.now self.now.numbers.items (passed.block * 64) result }
     {
-        let mut left = word;
+        let mut left = passed.word;
         while left != 0 {
             let bit = left.trailing_zeros();
-            if let Some(number) = self.numbers.get(block * 64 + bit as usize) {
-                if let Some(line) = lines.get(*number) {
-                    if line.fits(catalog, ue, header) {
+            if let Some(number) = self.numbers.get(passed.block * 64 + bit as usize) {
+                if let Some(line) = standing.lines.get(*number) {
+                    if standing.fits(line, catalog, ue, header) {
                         return Some(line.place);
                     }
                 }
@@ -455,24 +464,25 @@ impl Sieve {
         None
     }
 
-    /// The place of the rule of the first line that fits a packet.
+    /// The place of the rule of the first line that fits a packet, and whose rule still stands.
     #[inline(always)]
     pub(crate) fn first_place<C: Detects>(
         &self,
-        lines: &[Line],
+        standing: Standing<'_>,
         catalog: &C,
         ue: &Addr,
         header: &Header,
     ) -> Option<u8>
-        requires { IsSieve lines.now self.now }
-        ensures { result ≡ first_of (line_fits (C.offers catalog.now) ue.now header.now) lines.now
-            self.now.numbers.items }
+        requires { IsSieve standing.lines.now self.now }
+        ensures { result ≡ first_of (standing_fits standing.entry.places.now (C.offers catalog.now) ue.now header.now)
+            standing.entry.lines.now self.now.numbers.items }
     {
         let remote = addr_on(Side::Remote, header);
         let rows = self.rows_of(header);
         for block in 0..self.free.len() {
             let word = self.sieved(block, &remote, &rows, header);
-            if let Some(place) = self.first_in(lines, block, word, catalog, ue, header) {
+            let passed = Passed { block, word };
+            if let Some(place) = self.first_in(standing, passed, catalog, ue, header) {
                 return Some(place);
             }
         }

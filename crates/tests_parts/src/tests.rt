@@ -7,6 +7,7 @@ mod filter_v6;
 mod flow;
 mod index;
 mod ipv6;
+mod later;
 mod packet;
 mod rule;
 mod shelf;

@@ -1,17 +1,22 @@
 -- What an index keeps of its rules.
-use Rattle.std.specs.Prelude.{◌≡◌, ◌≤◌, IfSome, List, Option, length}
+use Rattle.std.specs.Prelude.{ℕ, ◌≡◌, ◌<◌, ◌≤◌, ◌⊎◌, IfSome, List, Option, Some, None, length}
 use Rattle.pcef_table.specs.declared.entry.Source.{Source}
 use Rattle.pcef_table.specs.Tables.{most_entries}
-use Rattle.pcef_index.specs.declared.index.Sieved.{Sieved}
-use Rattle.pcef_index.specs.private.AllSieves.{AreServed}
-use Rattle.pcef_index.specs.private.Lines.{lines_from}
+use Rattle.pcef_index.specs.declared.based.Based.{Based}
+use Rattle.pcef_index.specs.declared.part.Part.{Part}
+use Rattle.pcef_index.specs.private.Bases.{HasPlace, IsPart}
 
--- the lines are those of some rules, and there is a sieve for each kind of packets
-pub record IsSievedOf (sources : List Source) (s : Sieved) : Type 0 where
-  pub lines_are : s.lines.items ≡ lines_from 0 sources
-  pub served : AreServed s.lines.items s.sieves
+abbrev pub HasPlaceIn : Option Part → ℕ → Type 0
+HasPlaceIn None k = ⊥
+HasPlaceIn (Some p) k = HasPlace p k
 
--- the rules are at most as many as a table has, and what sieves them is theirs, where it is there
-pub record IsIndexed (sources : List Source) (kept : Option Sieved) : Type 0 where
+-- each rule stands in one of the parts
+pub record IsBased (sources : List Source) (b : Based) : Type 0 where
+  pub older : IsPart sources b.older
+  pub newer : IfSome b.newer (IsPart sources)
+  pub all : (k : ℕ) → k < length sources → HasPlace b.older k ⊎ HasPlaceIn b.newer k
+
+-- the rules are at most as many as a table has, and the parts are theirs, where there are any
+pub record IsIndexed (sources : List Source) (kept : Option Based) : Type 0 where
   pub few : length sources ≤ most_entries
-  pub sieved : IfSome kept (IsSievedOf sources)
+  pub based : IfSome kept (IsBased sources)

@@ -1,6 +1,6 @@
 -- The lines of rules. A line is what can fit a packet: a filter of a dynamic rule, or a predefined
 -- rule.
-use Rattle.std.specs.Prelude.{ℕ, ◌+◌, Bool, List, [], ◌∷◌, ◌++◌, map}
+use Rattle.std.specs.Prelude.{ℕ, ◌+◌, ◌&&◌, Bool, List, [], ◌∷◌, ◌++◌, Option, None, get_or, is_some, map}
 use Rattle.pcef_packet.specs.declared.header.Addr.{Addr}
 use Rattle.pcef_packet.specs.declared.header.Header.{Header}
 use Rattle.pcef_filter.specs.declared.filter.Filter.{Filter}
@@ -32,3 +32,11 @@ part_fits offers ue header (part.Offer index) = detected offers index header
 -- the part of a line fits a packet
 abbrev pub line_fits : List Offer → Addr → Header → Line → Bool
 line_fits offers ue header l = part_fits offers ue header l.part
+
+-- the rule that had place k still stands at one
+abbrev pub stands : List (Option ℕ) → ℕ → Bool
+stands places k = is_some (get_or places k None)
+
+-- the part of a line fits a packet, and its rule still stands
+abbrev pub standing_fits : List (Option ℕ) → List Offer → Addr → Header → Line → Bool
+standing_fits places offers ue header l = line_fits offers ue header l && stands places l.place

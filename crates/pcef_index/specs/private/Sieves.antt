@@ -16,16 +16,17 @@ use Rattle.pcef_index.specs.declared.sieve.Free.{Free}
 use Rattle.pcef_index.specs.declared.sieve.Sieve.{Sieve}
 use Rattle.pcef_index.specs.private.Digits.{AreDigits, LetsAddr}
 use Rattle.pcef_index.specs.private.Kinds.{kind_of, version_of}
-use Rattle.pcef_index.specs.private.Lines.{line_fits}
+use Rattle.pcef_index.specs.private.Lines.{line_fits, standing_fits}
 use Rattle.pcef_index.specs.private.Rows.{AreRows, IsRowOf, LetsNumber, row_of}
 use Rattle.pcef_index.specs.private.Sides.{addr_on, port_on}
 use Rattle.pcef_index.specs.private.Words.{first_of, fits_at, passes_at}
 
--- among the lines with these numbers stands the first that fits a packet of a kind
+-- among the lines with these numbers is the first that fits a packet of a kind, wherever the rules stand
 abbrev pub KeepsFirst : List Line → List ℕ → Kind → Type 0
 KeepsFirst lines numbers kind =
-    (offers : List Offer) (ue : Addr) (h : Header) → kind_of h ≡ kind
-    → first_of (line_fits offers ue h) lines numbers ≡ option_map (λ (l : Line). l.place) (find (line_fits offers ue h) lines)
+    (places : List (Option ℕ)) (offers : List Offer) (ue : Addr) (h : Header) → kind_of h ≡ kind
+    → first_of (standing_fits places offers ue h) lines numbers
+    ≡ option_map (λ (l : Line). l.place) (find (standing_fits places offers ue h) lines)
 
 -- line i of a block doesn't look at an address, or has its bit at the digits of one of its version
 abbrev pub LetsPlace : ℕ → Digits → ℕ → Addr → ℕ → Type 0

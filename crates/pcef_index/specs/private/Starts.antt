@@ -21,5 +21,6 @@ abbrev pub cell_at : List ℕ → List ℕ → ℕ → ℕ → ℕ
 cell_at starts ports octet port =
     start starts octet + count_up port (take (start starts (octet + 1) - start starts octet) (drop (start starts octet) ports))
 
+-- how many steps are at or below a port: where there are no starts, counted from the first on
 unfoldable pub cell_of : List ℕ → List ℕ → ℕ → ℕ
-cell_of starts ports port = if nat_lt (length starts) 257 then 0 else cell_at starts ports (port / 256) port
+cell_of starts ports port = if nat_lt (length starts) 257 then count_up port ports else cell_at starts ports (port / 256) port

@@ -124,7 +124,7 @@ impl SessionState {
     {
         let entry = entry_of(self.counted.usage(), rule, bearer)?;
         let table = self.newest.table().with(&self.listing, entry)?;
-        Indexed::new(self.alloc, table, &self.listing)
+        self.newest.after(self.alloc, table)
     }
 
     /// The table with the key that a command switches, on or off. Its rules are those of the newest table, so it shares
@@ -148,7 +148,7 @@ impl SessionState {
         ensures { IfOk result (λ t. ShowsNext self.now.setting self.now.journal command.now t) }
     {
         let table = drop_rules(self.alloc, self.newest.table(), &self.listing, command)?;
-        Indexed::new(self.alloc, table, &self.listing)
+        self.newest.after(self.alloc, table)
     }
 
     /// The table that a command makes.

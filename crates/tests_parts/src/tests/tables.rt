@@ -121,7 +121,7 @@ pub(crate) fn padded<C: Offers>(alloc: Global, catalog: &C, table: &Table) -> Op
 }
 
 /// The next generation with one more rule.
-fn with_variant<C: Offers>(
+pub(crate) fn with_variant<C: Offers>(
     alloc: Global,
     catalog: &C,
     table: &Table,
@@ -132,6 +132,19 @@ fn with_variant<C: Offers>(
 {
     let entry = entry_of_variant(alloc, variant)?;
     with_entry(catalog, table, entry)
+}
+
+/// The next generation without a rule.
+pub(crate) fn without_rule<C: Offers>(catalog: &C, table: &Table, name: &str) -> Option<Table>
+    requires { IsTable (C.offers catalog.now) table.now.entries }
+    ensures { IfSome result (λ t. IsTable (C.offers catalog.now) t.entries) }
+{
+    let name = RuleName::new(name).ok()?;
+    if table.generation() < 100 {
+        table.without(catalog, &name).ok()
+    } else {
+        None
+    }
 }
 
 /// The table of these rules, each of which came after the one before it.

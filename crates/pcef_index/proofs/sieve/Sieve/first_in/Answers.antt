@@ -2,14 +2,14 @@ use Rattle.std.proofs.Common.{◌≡◌, ◌≤◌, ◌+◌, ◌*◌, ◌∙◌,
 use Rattle.std.specs.Prelude.{slice_get}
 use Rattle.std.specs.Int.{trailing_zeros, w64}
 use Rattle.std.specs.Option.{option_map_or}
-use Rattle.std.proofs.lemmas.Bool.{ltb-false, ltb-true}
+use Rattle.std.proofs.lemmas.Bool.{and_parts, ltb-false, ltb-true}
 use Rattle.std.proofs.lemmas.Option.{slice_get_past, slice_get_read}
 use Rattle.pcef_index.specs.declared.lines.Line.{Line}
-use Rattle.pcef_index.specs.private.Lines.{line_fits}
+use Rattle.pcef_index.specs.private.Lines.{line_fits, standing_fits, stands}
 use Rattle.pcef_index.specs.private.Words.{fits_at, passes_at}
 use Rattle.pcef_index.proofs.Bits.{lowest_smaller}
 use Rattle.pcef_index.proofs.Numbering.{place_of}
-use Rattle.pcef_index.proofs.Searching.{fail_below, line_fails, past_fails, sieved_without}
+use Rattle.pcef_index.proofs.Searching.{fail_below, line_fails, past_fails, sieved_stronger, sieved_without}
 use Rattle.pcef_index.proofs.sieve.Sieve.first_in.Goals as goal
 use Rattle.pcef_index.proofs.sieve.Sieve.first_in.Goals.{in-Some+in-Some-get+else-fits, in-Some+in_default-get, in_default}
 
@@ -21,12 +21,22 @@ fits_there test lines n l b there is = ap (λ (o : Option Line). option_map_or t
 fits_past : (test : Line → Bool) (lines : List Line) (n : ℕ) → length lines ≤ n → fits_at test lines n ≡ false
 fits_past test lines n past = ap (λ (o : Option Line). option_map_or test o false) (slice_get_past lines n past)
 
+pub loop-left-init : goal.loop-left-init
+loop-left-init g c =
+    let offers = g.C.Offers.offers c.args.catalog.now in
+    let ue = c.args.ue.now in
+    let h = c.args.header.now in
+    let places = c.args.standing.places.now in
+    sieved_stronger (standing_fits places offers ue h) (line_fits offers ue h) c.args.standing.lines.now c.args.self.now.numbers.items (c.args.passed.block * 64) c.args.passed.word
+    (λ l fits. (and_parts (line_fits offers ue h l) (stands places l.place) fits).0)
+    c.requires.sieved
+
 pub returns-then-fits : goal.returns-then-fits
 returns-then-fits g c =
-    let test = line_fits (g.C.Offers.offers c.args.catalog.now) c.args.ue.now c.args.header.now in
-    let lines = c.args.lines.now in
+    let test = standing_fits c.args.standing.places.now (g.C.Offers.offers c.args.catalog.now) c.args.ue.now c.args.header.now in
+    let lines = c.args.standing.lines.now in
     let left = c.loop-left.left in
-    let from = c.args.block * 64 in
+    let from = c.args.passed.block * 64 in
     let number = c.in-Some.number.now in
     let line = c.in-Some-get.line.now in
     let here : slice_get c.deref.result.now (from + trailing_zeros w64 left) ≡ Some number =
@@ -47,11 +57,11 @@ loop-left-smaller g c = lowest_smaller c.loop-left.left (omega arith) (omega ari
 
 pub loop-left-preserved : goal.loop-left-preserved
 loop-left-preserved g c =
-    let test = line_fits (g.C.Offers.offers c.args.catalog.now) c.args.ue.now c.args.header.now in
-    let lines = c.args.lines.now in
+    let test = standing_fits c.args.standing.places.now (g.C.Offers.offers c.args.catalog.now) c.args.ue.now c.args.header.now in
+    let lines = c.args.standing.lines.now in
     let numbers = c.args.self.now.numbers.items in
     let left = c.loop-left.left in
-    let from = c.args.block * 64 in
+    let from = c.args.passed.block * 64 in
     let place : ℕ = from + trailing_zeros w64 left in
     let fails : passes_at (fits_at test lines) c.deref.result.now place ≡ false =
     elim c.match-get.branch [

@@ -1,9 +1,0 @@
-use Rattle.std.proofs.Common.{◌≡◌, length}
-use Rattle.pcef_index.proofs.Placing.{Ascends}
-use Rattle.pcef_index.proofs.steps.Steps.new.Given as goal
-
-abbrev pub invariant-loop-octet : goal.invariant-loop-octet
-invariant-loop-octet l = record {
-  ascends : Ascends l.starts.items (length l.ports.items);
-  count : length l.starts.items ≡ l.octet;
-}
