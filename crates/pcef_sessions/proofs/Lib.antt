@@ -10,6 +10,7 @@ pub mod FrameRuns
 pub mod Kept
 pub mod NameTests
 pub mod ReadLines
+pub mod Reads
 pub mod Saids
 pub mod Scripts
 pub mod Servings

@@ -1,4 +1,4 @@
-use Rattle.std.proofs.Common.{◌≡◌, ◌∙◌, ◌<◌, ◌++◌, [], append-nil, ap, arith, length, refl, rules, subst, sym, take}
+use Rattle.std.proofs.Common.{◌∙◌, ◌<◌, ◌++◌, [], arith, length, refl, rules, take}
 use Rattle.std.proofs.lemmas.Result.{err_from_is_err_and}
 use Rattle.std.specs.Io.KnownBytes.{Consumes}
 use Rattle.std.proofs.KnownBytes.{Consumes-kept, Consumes-nil, Consumes-trans}
@@ -6,6 +6,7 @@ use Rattle.pcef_script.specs.ScriptAnswers.{answered}
 use Rattle.pcef_script.specs.Scripts.{all_lines, ended_lines}
 use Rattle.pcef_sessions.specs.Standing.{fixed}
 use Rattle.pcef_sessions.proofs.Servings.{at_first, end_fails, opened_end, opened_stopped, stopped_in, wrote}
+use Rattle.pcef_sessions.proofs.Reads.{read_none}
 use Rattle.pcef_sessions.proofs.run.serve_all.Goals as goal
 
 pub loop-init : goal.loop-init
@@ -36,9 +37,8 @@ returns-in_err-end_line-in-Ok-eq0-clause-answers g c =
     let got = c.in-Ok-eq0.ensures.bytes in
     let zero = c.in-Ok-eq0.field-0-test in
     let room : 0 < length c.read_some.new.block = omega (arith, h.room, c.read_some.ensures.room) in
-    let none : take c.in-Ok-eq0.field-0 c.read_some.new.block ≡ [] = ap (λ n. take n c.read_some.new.block) zero in
     let all : Consumes (remaining c.args.reader.now) (remaining c.read_some.new.reader) h.input =
-    subst (Consumes (remaining c.args.reader.now) (remaining c.read_some.new.reader)) (ap (λ t. h.input ++ t) none ∙ append-nil h.input) (Consumes-trans (remaining c.args.reader.now) (remaining c.loop.reader) (remaining c.read_some.new.reader) h.input _ h.read got.0) in
+    read_none (remaining c.args.reader.now) (remaining c.loop.reader) (remaining c.read_some.new.reader) h.input c.read_some.new.block c.in-Ok-eq0.field-0 zero h.read got.0 in
     rw (r.1, r.2) (
       h.input,
       all,
@@ -55,9 +55,8 @@ returns-in-Ok-eq0-clause-answers g c =
     let got = c.in-Ok-eq0.ensures.bytes in
     let zero = c.in-Ok-eq0.field-0-test in
     let room : 0 < length c.read_some.new.block = omega (arith, h.room, c.read_some.ensures.room) in
-    let none : take c.in-Ok-eq0.field-0 c.read_some.new.block ≡ [] = ap (λ n. take n c.read_some.new.block) zero in
     let all : Consumes (remaining c.args.reader.now) (remaining c.read_some.new.reader) h.input =
-    subst (Consumes (remaining c.args.reader.now) (remaining c.read_some.new.reader)) (ap (λ t. h.input ++ t) none ∙ append-nil h.input) (Consumes-trans (remaining c.args.reader.now) (remaining c.loop.reader) (remaining c.read_some.new.reader) h.input _ h.read got.0) in
+    read_none (remaining c.args.reader.now) (remaining c.loop.reader) (remaining c.read_some.new.reader) h.input c.read_some.new.block c.in-Ok-eq0.field-0 zero h.read got.0 in
     (h.input, all, (got.1 zero room, wrote p (answered (all_lines h.input)) start (g.W.Write.contents c.end_line.new.writer) now.sessions now.any_fault (c.in_ok-end_line-in-Ok-eq0.ensures.ok p start h.input h.after)))
 
 pub returns-in_err-answer_block-in-Ok-clause-opened : goal.returns-in_err-answer_block-in-Ok-clause-opened

@@ -1,4 +1,4 @@
-use Rattle.std.proofs.Common.{◌≡◌, ◌∙◌, ◌<◌, ◌++◌, ◌∷◌, [], Err, append-nil, ap, arith, inl, inr, length, map, refl, rules, subst, sym, take}
+use Rattle.std.proofs.Common.{◌∙◌, ◌<◌, ◌++◌, ◌∷◌, [], Err, arith, inl, inr, length, map, refl, rules, sym, take}
 use Rattle.std.proofs.lemmas.Result.{err_from_is_err_and}
 use Rattle.std.specs.Io.KnownBytes.{Consumes}
 use Rattle.std.proofs.KnownBytes.{Consumes-kept, Consumes-nil, Consumes-trans}
@@ -7,6 +7,7 @@ use Rattle.pcef_sessions.specs.Frames.{meaning}
 use Rattle.pcef_sessions.specs.Standing.{fixed}
 use Rattle.pcef_sessions.proofs.FrameRuns.{block_stops, end_stops, ends_with, goes_on, is_over, opened_block, opened_end}
 use Rattle.pcef_sessions.proofs.Wovens.{none_woven, wrote_woven}
+use Rattle.pcef_sessions.proofs.Reads.{read_none}
 use Rattle.pcef_sessions.proofs.run.serve_all_frames.Goals as goal
 
 pub loop-init : goal.loop-init
@@ -38,9 +39,8 @@ returns-in_err-end_frames-in-Ok-eq0-clause-answers g c =
     let got = c.in-Ok-eq0.ensures.bytes in
     let zero = c.in-Ok-eq0.field-0-test in
     let room : 0 < length c.read_some.new.block = omega (arith, h.room, c.read_some.ensures.room) in
-    let none : take c.in-Ok-eq0.field-0 c.read_some.new.block ≡ [] = ap (λ n. take n c.read_some.new.block) zero in
     let all : Consumes (remaining c.args.reader.now) (remaining c.read_some.new.reader) h.input =
-    subst (Consumes (remaining c.args.reader.now) (remaining c.read_some.new.reader)) (ap (λ t. h.input ++ t) none ∙ append-nil h.input) (Consumes-trans (remaining c.args.reader.now) (remaining c.loop.reader) (remaining c.read_some.new.reader) h.input _ h.read got.0) in
+    read_none (remaining c.args.reader.now) (remaining c.loop.reader) (remaining c.read_some.new.reader) h.input c.read_some.new.block c.in-Ok-eq0.field-0 zero h.read got.0 in
     let fails = rw c.deref.ensures.value at c.in_err-end_frames-in-Ok-eq0.ensures.err in
     rw (r.1, r.2) (
       h.input,
@@ -58,9 +58,8 @@ returns-in-Ok-eq0-clause-answers g c =
     let got = c.in-Ok-eq0.ensures.bytes in
     let zero = c.in-Ok-eq0.field-0-test in
     let room : 0 < length c.read_some.new.block = omega (arith, h.room, c.read_some.ensures.room) in
-    let none : take c.in-Ok-eq0.field-0 c.read_some.new.block ≡ [] = ap (λ n. take n c.read_some.new.block) zero in
     let all : Consumes (remaining c.args.reader.now) (remaining c.read_some.new.reader) h.input =
-    subst (Consumes (remaining c.args.reader.now) (remaining c.read_some.new.reader)) (ap (λ t. h.input ++ t) none ∙ append-nil h.input) (Consumes-trans (remaining c.args.reader.now) (remaining c.loop.reader) (remaining c.read_some.new.reader) h.input _ h.read got.0) in
+    read_none (remaining c.args.reader.now) (remaining c.loop.reader) (remaining c.read_some.new.reader) h.input c.read_some.new.block c.in-Ok-eq0.field-0 zero h.read got.0 in
     let ok = rw c.deref.ensures.value at c.in_ok-end_frames-in-Ok-eq0.ensures.ok in
     let told = ok p start h.input h.after in (
       h.input,
