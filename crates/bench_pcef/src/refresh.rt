@@ -89,23 +89,30 @@ fn owners(
     Ok(owners)
 }
 
+/// What is timed beside the refreshes, and the times.
+#[derive(Drop)]
+struct Timed {
+    /// As many owners of tables as there are subscribers.
+    held: Vec<Arc<Indexed>>,
+    times: Times,
+}
+
 /// Times one refresh of all subscribers that finds a newer table, one that finds none, the swap of as many owners, and
 /// a look at the clock.
 fn time_each<N: Naming, C: Clock>(
     clock: &C,
     subscribers: &mut [Subscriber<N>],
-    held: &mut [Arc<Indexed>],
     newest: &Arc<Indexed>,
-    times: &mut Times,
+    timed: &mut Timed,
 ) -> io::Result<()> {
     let mut lap = Lap::begin(clock)?;
     refresh_each(subscribers, 1);
-    times.newer.push(lap.end(clock)?)?;
+    timed.times.newer.push(lap.end(clock)?)?;
     refresh_each(subscribers, 1);
-    times.same.push(lap.end(clock)?)?;
-    swap_each(held, newest)?;
-    times.own.push(lap.end(clock)?)?;
-    times.clock.push(lap.end(clock)?)?;
+    timed.times.same.push(lap.end(clock)?)?;
+    swap_each(&mut timed.held, newest)?;
+    timed.times.own.push(lap.end(clock)?)?;
+    timed.times.clock.push(lap.end(clock)?)?;
     Ok(())
 }
 
@@ -125,15 +132,14 @@ fn publish_next<N: Naming, W: Board<Cell<N>> + Drop, C: Clock>(
     load: Load,
     publisher: &mut Publisher<N, W>,
     subscribers: &mut [Subscriber<N>],
-    held: &mut [Arc<Indexed>],
-    times: &mut Times,
+    timed: &mut Timed,
 ) -> Option<()> {
     let generation = publisher.generation().checked_add(1)?;
     let table = empty_table(alloc, generation).ok()?;
     let newest = Arc::try_clone(&table).ok()?;
     publisher.publish(table).ok()?;
     if load.is_timed {
-        time_each(clock, subscribers, held, &newest, times).ok()?;
+        time_each(clock, subscribers, &newest, timed).ok()?;
     }
     refresh_each(subscribers, load.refreshes);
     Some(())
@@ -147,23 +153,17 @@ fn publish_all<N: Naming, W: Board<Cell<N>> + Drop, C: Clock>(
     publisher: &mut Publisher<N, W>,
     subscribers: &mut [Subscriber<N>],
 ) -> Option<Reached> {
-    let mut held = owners(alloc, subscribers.last()?.current().1, load.subscribers).ok()?;
-    let mut times = Times::new(alloc);
+    let mut timed = Timed {
+        held: owners(alloc, subscribers.last()?.current().1, load.subscribers).ok()?,
+        times: Times::new(alloc),
+    };
     for _ in 0..load.tables {
-        publish_next(
-            clock,
-            alloc,
-            load,
-            publisher,
-            subscribers,
-            &mut held,
-            &mut times,
-        )?;
+        publish_next(clock, alloc, load, publisher, subscribers, &mut timed)?;
     }
     Some(Reached {
         newest: publisher.generation(),
         held: subscribers.last()?.current().0,
-        spreads: times.spreads().ok()?,
+        spreads: timed.times.spreads().ok()?,
     })
 }
 

@@ -26,10 +26,8 @@ ghost use Rattle.pcef_lock.specs.Opening.{GoesBy};
 use crate::arguments::number;
 use opening::{packets, session};
 use pcef_catalog::{Catalog, Detects};
-use pcef_journaled::JournaledState;
-use pcef_lock::{Shared, open_history};
+use pcef_lock::{Opening, Shared, open_history};
 use pcef_packet::Header;
-use pcef_publish::Opened;
 use pcef_share::{Blanks, Naming};
 use std::alloc::{AllocError, Global};
 use std::io;
@@ -65,6 +63,17 @@ pub struct Load {
     pub rules: u8,
     /// What the workers do.
     pub work: Work,
+}
+
+/// What a measurement stands on.
+#[derive(Drop)]
+pub struct Host<'a, R, K> {
+    /// The threads and the waits of the system.
+    pub rt: &'a R,
+    /// Its clock.
+    pub clock: &'a K,
+    /// Memory.
+    pub alloc: Global,
 }
 
 /// The work that a word names.
@@ -103,11 +112,10 @@ fn load_of(words: &[String]) -> Option<Load> {
 
 /// The outcome of the workers of a session.
 fn measure_rounds<R: Threads + Wait + Sync, K: Clock + Sync>(
-    rt: &R,
-    clock: &K,
-    alloc: Global,
+    host: &Host<'_, R, K>,
     load: Load,
 ) -> Option<Reached> {
+    let alloc = host.alloc;
     let packets = packets(alloc, load)?;
     let session = session(alloc, load)?;
     let Ok(opened) = open_history(&session) else {
@@ -115,17 +123,13 @@ fn measure_rounds<R: Threads + Wait + Sync, K: Clock + Sync>(
     };
     let offered = Catalog::new(alloc, Vec::new(alloc)).ok()?;
     let catalog = Arc::new(alloc, offered).ok()?;
-    behind_its_lock::<Catalog, Brand, _, _>(
-        rt,
-        clock,
-        alloc,
-        catalog,
+    let opening = Opening {
         session,
         opened,
-        Blanks::new(),
-        packets.as_slice(),
-        load,
-    )
+        blanks: Blanks::new(),
+        places: load.workers,
+    };
+    behind_its_lock::<Catalog, Brand, _, _>(host, catalog, opening, packets.as_slice(), load)
 }
 
 /// The outcome of the workers of a session, which is put behind its lock and gets its rules.
@@ -135,23 +139,19 @@ fn behind_its_lock<
     R: Threads + Wait + Sync,
     K: Clock + Sync,
 >(
-    rt: &R,
-    clock: &K,
-    alloc: Global,
+    host: &Host<'_, R, K>,
     catalog: Arc<C>,
-    session: JournaledState,
-    opened: Opened,
-    blanks: Blanks,
+    opening: Opening,
     packets: &[Header],
     load: Load,
 ) -> Option<Reached>
     requires named { GoesBy N.ledger N.setting N.first N.book N.root
-        session.session opened blanks }
-    requires fresh { session.session.journal ≡ [] }
-    requires offers { C.offers (arc_value catalog) ≡ session.session.setting.catalog }
+        opening.session.session opening.opened opening.blanks }
+    requires fresh { opening.session.session.journal ≡ [] }
+    requires offers { C.offers (arc_value catalog) ≡ opening.session.session.setting.catalog }
 {
-    match Shared::<C, N, _>::open(rt, alloc, catalog, session, opened, blanks, load.workers) {
-        Ok((shared, desk)) => outcome_of(rt, clock, alloc, shared, desk, packets, load),
+    match Shared::<C, N, _>::open(host.rt, host.alloc, catalog, opening) {
+        Ok((shared, desk)) => outcome_of(host, shared, desk, packets, load),
         Err(_) => None,
     }
 }
@@ -165,7 +165,12 @@ pub fn measure<T: Threads + Wait + Sync>(
     let Some(load) = load_of(words) else {
         return Ok(false);
     };
-    let Some(reached) = measure_rounds(threads, rt, rt.alloc(), load) else {
+    let host = Host {
+        rt: threads,
+        clock: rt,
+        alloc: rt.alloc(),
+    };
+    let Some(reached) = measure_rounds(&host, load) else {
         return Err(AllocError.into());
     };
     let _ = eprintln!(rt; "nanoseconds {}", reached.nanoseconds);

@@ -11,11 +11,11 @@ ghost use Rattle.pcef_lock.specs.Opening.{GoesBy};
 use pcef_built_in::ShapedCatalog;
 use pcef_catalog::{Detects, Offers};
 use pcef_journaled::JournaledState;
-use pcef_lock::{Desk, Finished, Shared, Totals, open_history};
+use pcef_lock::{Desk, Finished, Opening, Shared, Totals, open_history};
 use pcef_model::Command;
 use pcef_packet::{Dir, read_header};
 use pcef_profile::read_profile;
-use pcef_publish::{Board, Cell, Opened};
+use pcef_publish::{Board, Cell};
 use pcef_rule::RuleName;
 use pcef_share::{Blanks, Naming};
 use pcef_worker::{OpenGate, Worker};
@@ -99,20 +99,13 @@ fn behind_its_lock<
     C: Detects + Drop + Send + Sync,
     N: Naming + Send + Sync,
     R: Threads + Wait + Sync,
->(
-    rt: &R,
-    alloc: Global,
-    catalog: Arc<C>,
-    session: JournaledState,
-    opened: Opened,
-    blanks: Blanks,
-) -> Option<Totals>
+>(rt: &R, alloc: Global, catalog: Arc<C>, opening: Opening) -> Option<Totals>
     requires named { GoesBy N.ledger N.setting N.first N.book N.root
-        session.session opened blanks }
-    requires fresh { session.session.journal ≡ [] }
-    requires offers { C.offers (arc_value catalog) ≡ session.session.setting.catalog }
+        opening.session.session opening.opened opening.blanks }
+    requires fresh { opening.session.session.journal ≡ [] }
+    requires offers { C.offers (arc_value catalog) ≡ opening.session.session.setting.catalog }
 {
-    match Shared::<C, N, _>::open(rt, alloc, catalog, session, opened, blanks, 1) {
+    match Shared::<C, N, _>::open(rt, alloc, catalog, opening) {
         Ok((shared, desk)) => totals(rt, alloc, shared, desk),
         Err(_) => None,
     }
@@ -126,8 +119,13 @@ fn share_session<R: Threads + Wait + Sync>(rt: &R, alloc: Global) -> Option<Tota
         return None;
     };
     let catalog = Arc::new(alloc, catalog).ok()?;
-    let blanks = Blanks::new();
-    behind_its_lock::<ShapedCatalog, Brand, _>(rt, alloc, catalog, session, opened, blanks)
+    let opening = Opening {
+        session,
+        opened,
+        blanks: Blanks::new(),
+        places: 1,
+    };
+    behind_its_lock::<ShapedCatalog, Brand, _>(rt, alloc, catalog, opening)
 }
 
 /// Prints how many packets were handed over. The runtime is passed twice: outside `main` a function may start threads

@@ -246,25 +246,34 @@ fn write_rest<R: Read, W: Write>(
     Err(End::NoMemory)
 }
 
+/// A capture whose front was read.
+#[derive(Drop)]
+struct Opened {
+    /// What is known of the frames that follow.
+    stream: CaptureStream,
+    /// How many octets its front takes.
+    taken: usize,
+}
+
 /// Drops the octets that were taken, and writes the lines for the capture from those behind them on.
 fn write_behind<R: Read, W: Write>(
     alloc: Global,
     plan: &Plan,
-    stream: &mut CaptureStream,
-    taken: usize,
+    opened: Opened,
     waiting: &mut Vec<u8>,
     reader: &mut R,
     writer: &mut W,
 ) -> Result<(Counts, Option<CaptureFault>), End>
-    requires { taken ≤ length waiting.old.items }
+    requires { opened.taken ≤ length waiting.old.items }
     ensures { (before : Option (List ℕ)) (input : List ℕ)
         → Consumes before (R.remaining reader.old) input
-        → Reached input [] stream.old (drop taken waiting.old.items)
+        → Reached input [] opened.stream (drop opened.taken waiting.old.items)
         → WritesCapture plan.now.ue plan.now.pads (rota_of plan.now) result before
         (R.remaining reader.new) (W.contents writer.old) (W.contents writer.new) }
 {
+    let Opened { mut stream, taken } = opened;
     match forget(waiting, taken) {
-        Ok(()) => write_rest(alloc, plan, stream, waiting, reader, writer),
+        Ok(()) => write_rest(alloc, plan, &mut stream, waiting, reader, writer),
         Err(_) => Err(End::NoMemory),
     }
 }
@@ -299,8 +308,8 @@ pub fn write_capture<R: Read, W: Write>(
     match CaptureStream::open(alloc, octets) {
         Ok((stream, rest)) => {
             let taken = len.saturating_sub(rest.len());
-            let mut stream = stream;
-            write_behind(alloc, plan, &mut stream, taken, waiting, reader, writer)
+            let opened = Opened { stream, taken };
+            write_behind(alloc, plan, opened, waiting, reader, writer)
         }
         Err(fault) => Err(End::Capture(fault)),
     }

@@ -23,7 +23,7 @@ use crate::command_line::{
 use crate::many::end::End;
 use crate::many::keeping::{Keeping, start, write_now};
 use crate::many::options::{Options, parse_options};
-use crate::many::serving::{Keys, Served, serve_here, serve_in};
+use crate::many::serving::{Served, random_keys, serve_here, serve_in};
 use crate::many::watched::Notes;
 use pcef_built_in::ShapedCatalog;
 use pcef_explain::read_text;
@@ -125,7 +125,7 @@ fn run<'a, T: Threads + Wait + Clock + Drop + Send + Sync + Copy + 'static>(
             return End::Profile;
         }
     };
-    let keys = match Keys::new(&rt) {
+    let keys = match random_keys(&rt) {
         Ok(keys) => keys,
         Err(error) => {
             let file = "the random numbers of the system";

@@ -16,7 +16,7 @@ use pcef_built_in::{
 use pcef_catalog::{Catalog, Detect, Predefined};
 use pcef_output::Fused;
 use pcef_packet::Header;
-use pcef_program::{Arguments, Environment, Shown, run_program, shown_by};
+use pcef_program::{Arguments, Environment, Host, Shown, run_program, shown_by};
 use pcef_run::{Storing, Taken};
 use pcef_trigger::{Outlet, ReportKind, Reporter};
 use std::alloc::AllocError;
@@ -34,13 +34,15 @@ fn run_on_streams<T: Threads + Wait + Sync>(
     requires { offers_of (arc_value environment.catalog) ≡ built_in_offers }
     ensures { IfOk result (λ status. status ≤ 4) }
 {
-    let alloc = rt.alloc();
+    let host = Host {
+        rt: threads,
+        alloc: rt.alloc(),
+    };
     let mut reader = rt.stdin();
-    let mut writer = BufWriter::new(alloc, Fused::new(io::writer(rt)))?;
+    let mut writer = BufWriter::new(host.alloc, Fused::new(io::writer(rt)))?;
     let mut faults = rt.stderr();
     Ok(run_program(
-        threads,
-        alloc,
+        &host,
         arguments,
         environment,
         &mut reader,

@@ -1,7 +1,8 @@
-//! Packets that arrive for workers.
+//! Packets that arrive for workers, and the commands of their session.
 
 ghost use Rattle.std.specs.Prelude.{◌↔◌, ◌<◌, All, IsTrue};
 
+use pcef_model::Command;
 use pcef_packet::PackedHeader;
 use std::mem::size_of;
 
@@ -15,6 +16,17 @@ pub struct Arrival {
 }
 
 const _: () = prove!(size_of::<Arrival>() == 52);
+
+/// What a run works off.
+#[derive(Drop)]
+pub struct Workload {
+    /// The packets, in the order in which they arrive.
+    pub arrivals: Vec<Arrival>,
+    /// The session's commands, in the order in which they are given.
+    pub commands: Vec<Command>,
+    /// How many workers take the packets: 1 to 16.
+    pub workers: u8,
+}
 
 /// Whether each packet arrives for one of `workers` workers.
 pub(crate) fn are_known(arrivals: &[Arrival], workers: u8) -> bool

@@ -8,7 +8,7 @@ ghost use Rattle.pcef_lock.specs.Desks.{listed};
 ghost use Rattle.pcef_gateway.specs.Sending.{HandInArrivals};
 ghost use Rattle.pcef_gateway.specs.Taking.{taken_headers};
 
-use crate::arrivals::Arrival;
+use crate::arrivals::{Arrival, Workload};
 use crate::ended::CommandAnswer;
 use crate::fault::Failure;
 use crate::gate_ref::GateRef;
@@ -24,14 +24,6 @@ use std::alloc::Global;
 use std::sync::Wait;
 use std::thread;
 use std::thread::{Scope, Threads};
-
-/// What a run works off: packets and commands, by `workers` workers.
-#[derive(Drop)]
-pub(crate) struct Workload {
-    pub(crate) arrivals: Vec<Arrival>,
-    pub(crate) commands: Vec<Command>,
-    pub(crate) workers: u8,
-}
 
 /// What the desk and the workers hand in, and the answers to the commands.
 #[derive(Drop)]

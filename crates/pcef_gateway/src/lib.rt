@@ -17,7 +17,7 @@ mod run;
 mod serving;
 mod worker_ring;
 
-pub use arrivals::Arrival;
+pub use arrivals::{Arrival, Workload};
 pub use ended::{CommandAnswer, Ended};
 pub use fault::RunFault;
 pub use run::run_session;

@@ -11,17 +11,16 @@ ghost use Rattle.pcef_gateway.specs.Ending.{FailsBy, RunsTo};
 ghost use Rattle.pcef_gateway.specs.InOrder.{commands_of, reports_of};
 ghost use Rattle.pcef_gateway.specs.declared.fault.RunFault.TheVariants.{StrangeWorker, Workers};
 
-use crate::arrivals::{Arrival, are_known};
-use crate::context::{RunContext, RunHandIns, Workload};
+use crate::arrivals::{Workload, are_known};
+use crate::context::{RunContext, RunHandIns};
 use crate::ended::{Ended, all_reports};
 use crate::fault::{Failure, RunFault};
 use crate::intake::HandIns;
 use pcef_catalog::{Detects, Offers};
 use pcef_journal::MAX_WORKERS;
 use pcef_journaled::JournaledState;
-use pcef_lock::{Desk, Finished, Shared, Totals, open_history};
-use pcef_model::Command;
-use pcef_publish::{Board, Cell, Opened};
+use pcef_lock::{Desk, Finished, Opening, Shared, Totals, open_history};
+use pcef_publish::{Board, Cell};
 use pcef_share::{Blanks, Naming};
 use pcef_worker::Gate;
 use std::alloc::Global;
@@ -29,8 +28,8 @@ use std::marker::Brand;
 use std::sync::{Arc, Wait};
 use std::thread::Threads;
 
-/// Runs a session with `workers` workers, each in a thread of its own, until all packets were sent to their workers and
-/// all commands were given. Each worker is attached before the first packet and the first command, and borrows the
+/// Runs a session with its workers, each in a thread of its own, until all packets were sent to their workers and all
+/// commands were given. Each worker is attached before the first packet and the first command, and borrows the
 /// gate. The commands are given in order, spread evenly among the packets. A worker hands its rows over where 32 wait
 /// or its ring is empty, and then takes the newest table. A worker whose rows are refused leaves; the packets that
 /// arrive for it after that are dropped.
@@ -46,42 +45,28 @@ pub fn run_session<C: Detects + Drop + Send + Sync, G: Gate + Sync, R: Threads +
     alloc: Global,
     catalog: Arc<C>,
     session: JournaledState,
-    arrivals: Vec<Arrival>,
-    commands: Vec<Command>,
-    workers: u8,
+    load: Workload,
     gate: &G,
 ) -> Result<Ended, RunFault>
     requires fresh { attach_count session.session.journal ≡ 0 }
     requires offers { C.offers (arc_value catalog) ≡ session.session.setting.catalog }
     ensures ran { IfOk result (RunsTo session.session.setting session.session.journal
-        arrivals.items commands.items workers) }
-    ensures workers { FailsBy Workers result ↔ ((workers ≡ 0) ⊎ (16 < workers)) }
+        load.arrivals.items load.commands.items load.workers) }
+    ensures workers { FailsBy Workers result ↔ ((load.workers ≡ 0) ⊎ (16 < load.workers)) }
     ensures strange { FailsBy StrangeWorker result
-        ↔ ((0 < workers) × (workers ≤ 16) × (All (λ a. a.worker < workers) arrivals.items → ⊥)) }
+        ↔ ((0 < load.workers) × (load.workers ≤ 16)
+        × (All (λ a. a.worker < load.workers) load.arrivals.items → ⊥)) }
 {
-    if workers == 0 || usize::from(workers) > MAX_WORKERS {
+    if load.workers == 0 || usize::from(load.workers) > MAX_WORKERS {
         return Err(RunFault::Workers);
     }
-    if !are_known(&arrivals, workers) {
+    if !are_known(&load.arrivals, load.workers) {
         return Err(RunFault::StrangeWorker);
     }
-    let load = Workload {
-        arrivals,
-        commands,
-        workers,
-    };
     match run_known(rt, alloc, catalog, session, load, gate) {
         Ok(ended) => Ok(ended),
         Err(failure) => Err(failure.fault()),
     }
-}
-
-/// A session that is to be shared, with its catalog, its history and ledgers without a name.
-struct Unshared<C> {
-    catalog: Arc<C>,
-    session: JournaledState,
-    opened: Opened,
-    blanks: Blanks,
 }
 
 /// Runs a session, where each packet is for one of its workers.
@@ -103,13 +88,13 @@ fn run_known<C: Detects + Drop + Send + Sync, G: Gate + Sync, R: Threads + Wait 
     let Ok(opened) = open_history(&session) else {
         return Err(Failure::NoMemory);
     };
-    let unshared = Unshared {
-        catalog,
+    let opening = Opening {
         session,
         opened,
         blanks: Blanks::new(),
+        places: load.workers,
     };
-    run_named::<C, Brand, G, R>(rt, alloc, unshared, load, gate)
+    run_named::<C, Brand, G, R>(rt, alloc, catalog, opening, load, gate)
 }
 
 /// Runs a session that has a name.
@@ -118,24 +103,24 @@ fn run_named<
     N: Naming + Send + Sync,
     G: Gate + Sync,
     R: Threads + Wait + Sync,
->(rt: &R, alloc: Global, unshared: Unshared<C>, load: Workload, gate: &G) -> Result<Ended, Failure>
+>(
+    rt: &R,
+    alloc: Global,
+    catalog: Arc<C>,
+    opening: Opening,
+    load: Workload,
+    gate: &G,
+) -> Result<Ended, Failure>
     requires few { load.workers ≤ 16 }
     requires known { All (λ a. a.worker < load.workers) load.arrivals.items }
     requires named { GoesBy N.ledger N.setting N.first N.book N.root
-        unshared.session.session unshared.opened unshared.blanks }
-    requires fresh { attach_count unshared.session.session.journal ≡ 0 }
-    requires offers { C.offers (arc_value unshared.catalog)
-        ≡ unshared.session.session.setting.catalog }
-    ensures { IfOk result (RunsTo unshared.session.session.setting unshared.session.session.journal
+        opening.session.session opening.opened opening.blanks }
+    requires fresh { attach_count opening.session.session.journal ≡ 0 }
+    requires offers { C.offers (arc_value catalog) ≡ opening.session.session.setting.catalog }
+    ensures { IfOk result (RunsTo opening.session.session.setting opening.session.session.journal
         load.arrivals.items load.commands.items load.workers) }
 {
-    let Unshared {
-        catalog,
-        session,
-        opened,
-        blanks,
-    } = unshared;
-    match Shared::<C, N, _>::open(rt, alloc, catalog, session, opened, blanks, load.workers) {
+    match Shared::<C, N, _>::open(rt, alloc, catalog, opening) {
         Ok((shared, desk)) => run_shared(rt, alloc, shared, desk, load, gate),
         Err(unopened) => Err(unopened.fault.into()),
     }

@@ -28,7 +28,7 @@ pub use finished::Finished;
 pub use gathering::{GatherFault, Totals};
 pub use key_totals::{KeyTotal, KeyTotals};
 pub use leaving::{Departure, LastFlush, Leaving};
-pub use opening::{SharedFault, Unopened, open_history};
+pub use opening::{Opening, SharedFault, Unopened, open_history};
 pub use own_rows::OwnRows;
 pub use pool::Pool;
 pub use seat::Seat;

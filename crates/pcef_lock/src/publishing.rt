@@ -11,6 +11,15 @@ use pcef_share::Naming;
 use std::alloc::AllocError;
 use std::sync::Arc;
 
+/// What publishes a session's tables, and who reads them.
+#[derive(Drop)]
+pub(crate) struct Publishing<N: Naming, W: Board<Cell<N>> + Drop> {
+    /// Publishes the tables.
+    pub(crate) publisher: Publisher<N, W>,
+    /// A subscriber for each place.
+    pub(crate) subscribers: Vec<Subscriber<N>>,
+}
+
 /// Publishes the table of a prepared command, if it makes one.
 pub(crate) fn publish<N: Naming, W: Board<Cell<N>> + Drop>(
     publisher: &mut Publisher<N, W>,

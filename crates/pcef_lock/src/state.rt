@@ -17,7 +17,7 @@ ghost use Rattle.pcef_lock.specs.Seats.{ChangesOnlySubscriber, HasSeenAll, IsNew
 ghost use mathlib.Core.List.{IsPrefix};
 
 use crate::pooled_share::{give_rates, held_in, room_in};
-use crate::publishing::{make_ready, next_subscriber, publish};
+use crate::publishing::{Publishing, make_ready, next_subscriber, publish};
 use crate::seat::Seat;
 use pcef_core::{SessionParts, session_is_exact};
 use pcef_journaled::JournaledState;
@@ -108,8 +108,7 @@ impl<N: Naming, W: Board<Cell<N>> + Drop, P: Pooling> State<N, W, P> {
     pub(crate) fn new(
         alloc: Global,
         session: JournaledState,
-        publisher: Publisher<N, W>,
-        subscribers: Vec<Subscriber<N>>,
+        publishing: Publishing<N, W>,
         blanks: Blanks,
         rates: Option<RateShares<P>>,
         places: u8,
@@ -117,16 +116,21 @@ impl<N: Naming, W: Board<Cell<N>> + Drop, P: Pooling> State<N, W, P> {
         requires name { N.ledger ≡ ledger_at blanks }
         requires setting { session.session.setting ≡ N.setting }
         requires fresh { attach_count session.session.journal ≡ 0 }
-        requires published { ArePublished N.setting session.session.journal N.first publisher }
+        requires published { ArePublished N.setting session.session.journal N.first
+            publishing.publisher }
         requires rates { rates ≡ rates_due P.is_there session.session.setting session.session.journal }
         requires places { places ≤ 16 }
-        requires subscribers { length subscribers.items ≡ places }
+        requires subscribers { length publishing.subscribers.items ≡ places }
         ensures session { result.0.session ≡ session.session }
-        ensures tables { result.0.tables ≡ publisher }
+        ensures tables { result.0.tables ≡ publishing.publisher }
         ensures places { result.0.places ≡ places }
         ensures books { result.0.books ≡ first_books session.session.journal }
         ensures shares { result.1 ≡ desk_shares session.session.journal }
     {
+        let Publishing {
+            publisher,
+            subscribers,
+        } = publishing;
         let commands = commands_of(&session);
         let mut books = Books::new(blanks);
         let mut shares = books.issue();

@@ -3,8 +3,18 @@
 use pcef_catalog::Catalog;
 use pcef_run::Taken;
 use pcef_trigger::Outlet;
+use std::alloc::Global;
 use std::io;
 use std::sync::Arc;
+
+/// What the program stands on.
+#[derive(Drop)]
+pub struct Host<'a, T> {
+    /// The threads and the waits of the system.
+    pub rt: &'a T,
+    /// Memory.
+    pub alloc: Global,
+}
 
 /// The arguments, and the files that they name.
 #[derive(Clone, Copy)]

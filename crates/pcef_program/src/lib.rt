@@ -16,6 +16,6 @@ mod reporting;
 mod shown;
 pub mod words;
 
-pub use environment::{Arguments, Environment};
+pub use environment::{Arguments, Environment, Host};
 pub use program::run_program;
 pub use shown::{Shown, shown_by};

@@ -10,7 +10,7 @@ ghost use Rattle.pcef_run.specs.declared.taken.Counts.{Counts};
 ghost use Rattle.pcef_program.specs.PlanRuns.{IsWritten, RanOne, RanPlan};
 
 use crate::end::{End, plan_end, run_end};
-use crate::environment::Environment;
+use crate::environment::{Environment, Host};
 use pcef_model::{Profile, Report};
 use pcef_run::{Counts, Plan, Ran, Taken, read_plan, run_plan, summary_text};
 use pcef_script::put_all;
@@ -72,8 +72,7 @@ fn report_run<W: Write>(
 
 /// Runs a plan, and writes its summary.
 fn run_one<T: Threads + Wait + Sync, W: Write>(
-    rt: &T,
-    alloc: Global,
+    host: &Host<'_, T>,
     profile: Profile,
     plan: Plan,
     workers: u8,
@@ -88,16 +87,15 @@ fn run_one<T: Threads + Wait + Sync, W: Write>(
         outlet,
         taken,
     } = environment;
-    match run_plan(rt, alloc, catalog, profile, plan, workers) {
-        Ok(ran) => report_run(alloc, &ran, outlet, taken, writer),
+    match run_plan(host.rt, host.alloc, catalog, profile, plan, workers) {
+        Ok(ran) => report_run(host.alloc, &ran, outlet, taken, writer),
         Err(end) => run_end(end),
     }
 }
 
 /// Reads the plan of an input, runs it on the session of a profile, and writes the summary.
 pub(crate) fn run_input<T: Threads + Wait + Sync, R: Read, W: Write>(
-    rt: &T,
-    alloc: Global,
+    host: &Host<'_, T>,
     profile: Profile,
     workers: u8,
     environment: Environment<'_>,
@@ -108,8 +106,8 @@ pub(crate) fn run_input<T: Threads + Wait + Sync, R: Read, W: Write>(
         (R.remaining reader.old) (R.remaining reader.new)
         (W.contents writer.old) (W.contents writer.new) }
 {
-    match read_plan(alloc, reader, workers) {
-        Ok(plan) => run_one(rt, alloc, profile, plan, workers, environment, writer),
-        Err(fault) => plan_end(alloc, fault),
+    match read_plan(host.alloc, reader, workers) {
+        Ok(plan) => run_one(host, profile, plan, workers, environment, writer),
+        Err(fault) => plan_end(host.alloc, fault),
     }
 }

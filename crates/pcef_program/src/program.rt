@@ -10,7 +10,7 @@ ghost use Rattle.pcef_program.specs.Programs.{Ends, EndsOne, IsWhole, RanScriptO
 ghost use Rattle.pcef_program.specs.EndWriting.{WritesEnd};
 
 use crate::end::{End, profile_end, script_end, unread_end};
-use crate::environment::{Arguments, Environment};
+use crate::environment::{Arguments, Environment, Host};
 use crate::plan_run::run_input;
 use crate::pool_run::run_on_pool;
 use crate::reporting::report_end;
@@ -46,8 +46,7 @@ fn run_on<R: Read, W: Write>(
 
 /// Runs a script on the session of a profile, or, with a number of workers, a plan.
 fn run_as_asked<T: Threads + Wait + Sync, R: Read, W: Write>(
-    rt: &T,
-    alloc: Global,
+    host: &Host<'_, T>,
     profile: Profile,
     workers: Option<u8>,
     environment: Environment<'_>,
@@ -65,15 +64,14 @@ fn run_as_asked<T: Threads + Wait + Sync, R: Read, W: Write>(
                 outlet: _,
                 taken: _,
             } = environment;
-            run_on(alloc, profile, catalog, reader, writer)
+            run_on(host.alloc, profile, catalog, reader, writer)
         }
-        Some(workers) => run_input(rt, alloc, profile, workers, environment, reader, writer),
+        Some(workers) => run_input(host, profile, workers, environment, reader, writer),
     }
 }
 
 fn with_profile<T: Threads + Wait + Sync, R: Read, W: Write>(
-    rt: &T,
-    alloc: Global,
+    host: &Host<'_, T>,
     profile: &io::Result<String>,
     workers: Option<u8>,
     environment: Environment<'_>,
@@ -88,8 +86,8 @@ fn with_profile<T: Threads + Wait + Sync, R: Read, W: Write>(
         Ok(text) => text,
         Err(error) => return unread_end(error.kind()),
     };
-    match read_profile(alloc, text.as_str()) {
-        Ok(profile) => run_as_asked(rt, alloc, profile, workers, environment, reader, writer),
+    match read_profile(host.alloc, text.as_str()) {
+        Ok(profile) => run_as_asked(host, profile, workers, environment, reader, writer),
         Err(fault) => profile_end(fault),
     }
 }
@@ -109,8 +107,7 @@ fn request_of<'a>(
 
 /// Runs the script or the run that the arguments ask for, if they do.
 fn one_end<T: Threads + Wait + Sync, R: Read, W: Write>(
-    rt: &T,
-    alloc: Global,
+    host: &Host<'_, T>,
     asked: Option<&io::Result<String>>,
     workers: Option<u8>,
     environment: Environment<'_>,
@@ -123,7 +120,7 @@ fn one_end<T: Threads + Wait + Sync, R: Read, W: Write>(
         (W.contents writer.old) (W.contents writer.new) }
 {
     match asked {
-        Some(profile) => with_profile(rt, alloc, profile, workers, environment, reader, writer),
+        Some(profile) => with_profile(host, profile, workers, environment, reader, writer),
         None => End::Usage,
     }
 }
@@ -140,8 +137,7 @@ fn asked_pool(words: &[Vec<u8>], profiles: &[io::Result<String>]) -> Option<Sums
 }
 
 fn end_of<T: Threads + Wait + Sync, R: Read, W: Write>(
-    rt: &T,
-    alloc: Global,
+    host: &Host<'_, T>,
     arguments: Arguments<'_>,
     environment: Environment<'_>,
     reader: &mut R,
@@ -156,7 +152,7 @@ fn end_of<T: Threads + Wait + Sync, R: Read, W: Write>(
     match asked_pool(words, profiles) {
         Some(capacity) => {
             run_on_pool(
-                alloc,
+                host.alloc,
                 capacity,
                 profiles,
                 &*environment.catalog,
@@ -166,15 +162,7 @@ fn end_of<T: Threads + Wait + Sync, R: Read, W: Write>(
         }
         None => {
             let asked = request_of(words, profiles);
-            one_end(
-                rt,
-                alloc,
-                asked,
-                workers_of(words),
-                environment,
-                reader,
-                writer,
-            )
+            one_end(host, asked, workers_of(words), environment, reader, writer)
         }
     }
 }
@@ -190,8 +178,7 @@ fn end_of<T: Threads + Wait + Sync, R: Read, W: Write>(
 /// refuses ends the program as `want of memory`. Sessions on a pool read the whole input first, too, and are run as
 /// `run_pool` does; the writer is flushed at its end.
 pub fn run_program<T: Threads + Wait + Sync, R: Read, W: Write, E: Write>(
-    rt: &T,
-    alloc: Global,
+    host: &Host<'_, T>,
     arguments: Arguments<'_>,
     environment: Environment<'_>,
     reader: &mut R,
@@ -213,7 +200,13 @@ pub fn run_program<T: Threads + Wait + Sync, R: Read, W: Write, E: Write>(
         (R.remaining reader.old) (R.remaining reader.new)
         (W.contents writer.old) (W.contents writer.new) }
 {
-    let end = end_of(rt, alloc, arguments, environment, reader, writer);
-    report_end(alloc, &end, arguments.words, arguments.profiles, faults);
+    let end = end_of(host, arguments, environment, reader, writer);
+    report_end(
+        host.alloc,
+        &end,
+        arguments.words,
+        arguments.profiles,
+        faults,
+    );
     end.status()
 }

@@ -13,7 +13,7 @@ use crate::fault::RunEnd;
 use crate::obeying::{accepted_among, obey};
 use crate::plan::Plan;
 use pcef_catalog::{Detects, Offers};
-use pcef_gateway::{CommandAnswer, Ended, RunFault, run_session};
+use pcef_gateway::{CommandAnswer, Ended, RunFault, Workload, run_session};
 use pcef_journaled::JournaledState;
 use pcef_model::{OpenFault, Profile};
 use pcef_worker::OpenGate;
@@ -101,9 +101,12 @@ pub fn run_plan<C: Detects + Drop + Send + Sync, R: Threads + Wait + Sync>(
     let Ok(answers) = obey(alloc, &mut session, first) else {
         return Err(RunEnd::NoMemory);
     };
-    match run_session(
-        rt, alloc, catalog, session, arrivals, later, workers, &OpenGate,
-    ) {
+    let load = Workload {
+        arrivals,
+        commands: later,
+        workers,
+    };
+    match run_session(rt, alloc, catalog, session, load, &OpenGate) {
         Ok(ended) => Ok(Ran { answers, ended }),
         Err(fault) => Err(run_fault(fault)),
     }

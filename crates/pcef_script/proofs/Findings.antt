@@ -5,7 +5,7 @@ use Rattle.pcef_model.specs.Setting.{Setting}
 use Rattle.pcef_world.specs.Steps.{Standing, at_start, standing_of}
 use Rattle.pcef_world.specs.Worlds.{IsOpenedWorld, World}
 use Rattle.pcef_script.specs.Findings.{Finds, FindsAll, FindsLine, IsFindingOf, as_list}
-use Rattle.pcef_script.specs.private.Playing.{AddsLine, PlaysLines}
+use Rattle.pcef_script.specs.private.Playing.{PlaysBytes, PlaysLines}
 use Rattle.pcef_script.specs.declared.finding.Finding.{Finding}
 use Rattle.pcef_script.specs.declared.finding.Found.{Found}
 
@@ -39,10 +39,10 @@ finds_more p before between after number (l ∷ lines) bytes told next (first, r
     )
 
 -- what a world finds in one line more
-pub finds_added : (start before after : World) (number : ℕ) (lines : List (List ℕ)) (bytes : List ℕ) (old new : List Finding)
+pub finds_added : (start before after : World) (number : ℕ) (lines : List (List ℕ)) (bytes : List ℕ) (old new : List Finding) (told : Option Finding)
     → before.session.setting ≡ start.session.setting → number ≡ 1 + length lines → Finds start.session.setting (standing_of start) 1 lines old (standing_of before)
-    → AddsLine before number bytes old new after → Finds start.session.setting (standing_of start) 1 (lines ++ bytes ∷ []) new (standing_of after)
-finds_added start before after number lines bytes old new setting count finds (told, plays, is) =
+    → PlaysBytes before number bytes told after → new ≡ old ++ as_list told → Finds start.session.setting (standing_of start) 1 (lines ++ bytes ∷ []) new (standing_of after)
+finds_added start before after number lines bytes old new told setting count finds plays is =
     let p = start.session.setting in
     let here : FindsLine p (standing_of before) (1 + length lines) bytes told (standing_of after) =
     subst (λ n. FindsLine p (standing_of before) n bytes told (standing_of after)) count (subst (λ s. FindsLine s (standing_of before) number bytes told (standing_of after)) setting plays) in

@@ -1,7 +1,7 @@
 -- The finding on a line that is played.
-use Rattle.std.proofs.Common.{◌≡◌, ◌∙◌, ℕ, List, ◌++◌, false, ap, inl, inr, refl, subst}
+use Rattle.std.proofs.Common.{◌≡◌, ◌∙◌, ℕ, List, false, ap, inl, inr, refl, subst}
 use Rattle.std.proofs.lemmas.Result.{IfOk-weaker}
-use Rattle.std.specs.Prelude.{◌≢◌, Option, Some, Result, Ok, Err, IfOk, OnOk}
+use Rattle.std.specs.Prelude.{◌≢◌, Option, Some, Result, Ok, Err, IfOk}
 use Rattle.std.specs.declared.alloc.AllocError.{AllocError}
 use Rattle.pcef_model.specs.Journals.{gen}
 use Rattle.pcef_line.specs.declared.line.Line.{Line}
@@ -14,8 +14,8 @@ use Rattle.pcef_script.specs.ScriptLines.{is_blank_line}
 use Rattle.pcef_world.specs.Steps.{Reply, Standing, reply_of, standing_of}
 use Rattle.pcef_world.specs.Worlds.{World}
 use Rattle.pcef_world.specs.declared.answer.StepAnswer.{StepAnswer}
-use Rattle.pcef_script.specs.Findings.{IsFindingOf, as_list, finding_in}
-use Rattle.pcef_script.specs.private.Playing.{AddsLine, IsOfFault, PlaysBytes, PlaysLine, FindsAnswer}
+use Rattle.pcef_script.specs.Findings.{IsFindingOf, finding_in}
+use Rattle.pcef_script.specs.private.Playing.{IsOfFault, PlaysBytes, PlaysLine, FindsAnswer}
 use Rattle.pcef_script.specs.declared.finding.Finding.{Finding}
 
 -- a step that was made
@@ -40,9 +40,3 @@ pub fault_played : (number : ℕ) (w : World) (bytes : List ℕ) (fault : LineFa
 fault_played number w bytes fault x filled some (due, is, inl none) told = absurd (some none)
 fault_played number w bytes fault x filled some (due, is, inr same) (line, found, answer) =
     inr (filled, (Err fault, subst (LineDue bytes) same is, ((x, refl, line, found, answer), refl)))
-
--- its finding is appended to those before
-pub line_added : (r : Result (Unit {0}) AllocError) (before after : World) (number : ℕ) (bytes : List ℕ) (old new : List Finding) (told : Option Finding) → PlaysBytes before number bytes told after
-    → OnOk r (new ≡ old ++ as_list told) → OnOk r (AddsLine before number bytes old new after)
-line_added (Ok done) before after number bytes old new told plays is = (told, plays, is)
-line_added (Err e) before after number bytes old new told plays is = tt

@@ -1,14 +1,14 @@
 -- Two outputs of the same lines are equal.
-use Rattle.std.proofs.Common.{◌≡◌, ◌∙◌, ℕ, ◌+◌, Bool, true, false, List, [], ◌∷◌, ◌++◌, refl, sym, ap, Option, Some, None, Result, Ok, Err}
+use Rattle.std.proofs.Common.{◌≡◌, ◌∙◌, ℕ, ◌+◌, Bool, true, false, List, [], ◌∷◌, ◌++◌, sym, ap, Option, Some, None, Result, Ok, Err}
 use Rattle.std.specs.Str.{is_utf8}
 use Rattle.pcef_model.specs.Setting.{Setting}
-use Rattle.pcef_world.specs.Steps.{Standing, step_outcome}
+use Rattle.pcef_world.specs.Steps.{Standing}
 use Rattle.pcef_line.specs.declared.line.Line.{Line}
 use Rattle.pcef_line.specs.declared.line.Line.TheVariants as line
 use Rattle.pcef_line.specs.declared.fault.LineFault.{LineFault}
 use Rattle.pcef_line.proofs.LineLaws.{due_once}
 use Rattle.pcef_answer.proofs.OneShow.{one_show}
-use Rattle.pcef_script.specs.ScriptAnswers.{Answers, AnswersAs, AnswersLine, DoesLine, DueWithin, LineDue, TextDue, fault_count}
+use Rattle.pcef_script.specs.ScriptAnswers.{Answers, AnswersAs, AnswersLine, DoesLine, DueWithin, TextDue, fault_count}
 use Rattle.pcef_script.specs.ScriptLines.{within_limit}
 
 one_text : (utf8 : Bool) (text : List ℕ) (d e : Result Line LineFault) → TextDue utf8 text d → TextDue utf8 text e → d ≡ e

@@ -5,7 +5,7 @@ ghost use Rattle.pcef_model.specs.ProfileModel.{setting_of};
 ghost use Rattle.pcef_world.specs.Worlds.{IsOpenedWorld};
 ghost use Rattle.pcef_script.specs.Scripts.{all_lines};
 ghost use Rattle.pcef_script.specs.Findings.{CantOpen, FindsAll, as_list};
-ghost use Rattle.pcef_script.specs.private.Playing.{AddsLine, PlaysLines};
+ghost use Rattle.pcef_script.specs.private.Playing.{PlaysLines};
 
 use crate::find_fault::FindFault;
 use crate::finding::Finding;
@@ -40,25 +40,6 @@ fn push(found: &mut Vec<Finding>, next: Option<Finding>) -> Result<(), AllocErro
     Ok(())
 }
 
-/// Plays the next line, and appends its finding.
-fn take_line<C: Detects>(
-    alloc: Global,
-    catalog: &C,
-    world: &mut WorldState,
-    lines: &mut LineReader,
-    number: u64,
-    bytes: &[u8],
-    found: &mut Vec<Finding>,
-) -> Result<(), AllocError>
-    requires { C.offers catalog.now ≡ world.old.session.setting.catalog }
-    ensures found { OnOk result
-        (AddsLine world.old number bytes.now found.old.items found.new.items world.new) }
-    ensures setting { world.new.session.setting ≡ world.old.session.setting }
-{
-    let next = play(alloc, catalog, world, lines, number, bytes)?;
-    push(found, next)
-}
-
 fn find_in<C: Detects>(
     alloc: Global,
     catalog: &C,
@@ -75,9 +56,8 @@ fn find_in<C: Detects>(
     loop {
         let (line, later) = first_line(rest);
         number += 1;
-        take_line(
-            alloc, catalog, &mut world, &mut lines, number, line, &mut found,
-        )?;
+        let next = play(alloc, catalog, &mut world, &mut lines, number, line)?;
+        push(&mut found, next)?;
         match later {
             Some(later) => rest = later,
             None => return Ok(found),

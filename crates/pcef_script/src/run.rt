@@ -56,17 +56,7 @@ fn run<C: Detects, R: Read, W: Write>(
     let mut block = [0u8; 8192];
     loop {
         match read_some(reader, &mut block, script.line.room()) {
-            Ok(0) => {
-                return end_line(
-                    alloc,
-                    catalog,
-                    &mut script.world,
-                    &mut script.lines,
-                    &script.line,
-                    script.faults,
-                    writer,
-                );
-            }
+            Ok(0) => return end_line(alloc, catalog, &mut script, writer),
             Ok(n) => answer_block(alloc, catalog, &mut script, writer, &block[..n])?,
             Err(_) => return Err(ScriptFault::Read),
         }

@@ -71,30 +71,34 @@ fn write_and_count<W: Write>(
     }
 }
 
-/// Answers a line that has ended, and returns how many lines are at fault then. The reports of the lines before it were
-/// written, and are forgotten.
+/// Answers the line of a script, which has ended, and returns how many lines are at fault then. The reports of the lines
+/// before it were written, and are forgotten.
 pub(crate) fn end_line<C: Detects, W: Write>(
     alloc: Global,
     catalog: &C,
-    world: &mut WorldState,
-    lines: &mut LineReader,
-    line: &Pending,
-    faults: u64,
+    script: &mut Running,
     writer: &mut W,
 ) -> Result<u64, ScriptFault>
-    requires { C.offers catalog.now ≡ world.old.session.setting.catalog }
-    ensures ok { EndsKept line.now faults world.old result world.new
+    requires { C.offers catalog.now ≡ script_offers script.old }
+    ensures ok { EndsKept script.old.line script.old.faults script.old.world result script.new.world
         (W.contents writer.old) (W.contents writer.new) }
-    ensures err { FailsKept line.now world.old result
+    ensures err { FailsKept script.old.line script.old.world result
         (W.contents writer.old) (W.contents writer.new) }
-    ensures setting { world.new.session.setting ≡ world.old.session.setting }
+    ensures setting { script.new.world.session.setting ≡ script.old.world.session.setting }
+    ensures line { script.new.line ≡ script.old.line }
 {
-    if line.is_blank() {
-        return Ok(faults);
+    if script.line.is_blank() {
+        return Ok(script.faults);
     }
-    world.forget();
-    match answer_of(alloc, catalog, world, lines, line) {
-        Ok(answer) => write_and_count(writer, &answer, faults),
+    script.world.forget();
+    match answer_of(
+        alloc,
+        catalog,
+        &mut script.world,
+        &mut script.lines,
+        &script.line,
+    ) {
+        Ok(answer) => write_and_count(writer, &answer, script.faults),
         Err(_) => Err(ScriptFault::NoMemory),
     }
 }
@@ -117,15 +121,7 @@ fn take_byte<C: Detects, W: Write>(
     if !script.line.take(byte)? {
         return Ok(());
     }
-    script.faults = end_line(
-        alloc,
-        catalog,
-        &mut script.world,
-        &mut script.lines,
-        &script.line,
-        script.faults,
-        writer,
-    )?;
+    script.faults = end_line(alloc, catalog, script, writer)?;
     script.line.clear();
     Ok(())
 }

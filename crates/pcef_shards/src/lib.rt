@@ -23,6 +23,6 @@ mod sorting;
 pub use laws::{lines_have_threads, names_have_threads};
 pub use outlet::Outlet;
 pub use parcel::{Leading, Parcel};
-pub use run::{Ran, serve_in_threads};
+pub use run::{Keys, Ran, serve_in_threads};
 pub use shard::Ended;
 pub use sorting::Sorting;

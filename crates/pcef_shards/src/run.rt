@@ -12,7 +12,7 @@ ghost use Rattle.pcef_shards.specs.private.Started.{AreFor, HaveKept};
 use crate::feeding::feed;
 use crate::lane::Lane;
 use crate::parcel::Leading;
-use crate::shard::{Ended, Handle, Shard, start};
+use crate::shard::{Ended, Handle, Shard, Task, start};
 use crate::signals::Signals;
 use crate::sorting::Sorting;
 use pcef_model::Profile;
@@ -23,6 +23,15 @@ use std::io::{Read, Write};
 use std::marker::Brand;
 use std::sync::{Arc, Wait};
 use std::thread::{self, JoinHandle, Threads};
+
+/// Random keys for two hashes.
+#[derive(Clone, Copy)]
+pub struct Keys {
+    /// For that which picks the thread of a line.
+    pub lines: RandomState,
+    /// For that of the names in a thread.
+    pub names: RandomState,
+}
 
 /// The outcome of a run of threads.
 #[derive(Drop)]
@@ -45,6 +54,17 @@ fn same(profile: &Profile) -> Profile
         rows: profile.rows,
         commands: profile.commands,
     }
+}
+
+/// What the threads are to do.
+#[derive(Drop)]
+struct Tasks<'a, W: Write + Drop> {
+    /// Takes the answers, one for each thread.
+    writers: Vec<W>,
+    /// The profile of all sessions.
+    profile: &'a Profile,
+    /// For the hash of names.
+    keys: RandomState,
 }
 
 /// The threads, and the ways that lead to them.
@@ -87,22 +107,31 @@ fn start_each<
     rt: T,
     alloc: Global,
     signals: &Arc<Signals>,
-    writers: Vec<W>,
-    profile: &Profile,
-    keys: RandomState,
+    tasks: Tasks<'_, W>,
 ) -> Result<Started<N, W>, ScriptFault>
-    ensures many { IfOk result (λ s. length s.lanes.items ≡ length writers.items) }
-    ensures threads { IfOk result (λ s. vec_len s.handles ≡ vec_len writers) }
+    ensures many { IfOk result (λ s. length s.lanes.items ≡ length tasks.entry.writers.items) }
+    ensures threads { IfOk result (λ s. vec_len s.handles ≡ vec_len tasks.entry.writers) }
     ensures lanes { IfOk result (λ s. All (λ lane. lane ≡ []) s.lanes.items) }
-    ensures handles { IfOk result (λ s. AreFor profile.now 0 writers.items s.handles.items) }
+    ensures handles { IfOk result (λ s.
+        AreFor tasks.entry.profile.now 0 tasks.entry.writers.items s.handles.items) }
 {
+    let Tasks {
+        writers,
+        profile,
+        keys,
+    } = tasks;
     let mut started = Started {
         lanes: Vec::new(alloc),
         handles: Vec::new(alloc),
     };
     for writer in writers {
-        let thread = started.handles.len();
-        let shard = start::<N, T, W>(rt, alloc, signals, thread, writer, same(profile), keys)?;
+        let task = Task {
+            thread: started.handles.len(),
+            writer,
+            profile: same(profile),
+            keys,
+        };
+        let shard = start::<N, T, W>(rt, alloc, signals, task)?;
         started.add(shard)?;
     }
     Ok(started)
@@ -118,20 +147,19 @@ fn start_all<
     rt: T,
     alloc: Global,
     signals: &Arc<Signals>,
-    writers: Vec<W>,
-    profile: &Profile,
-    keys: RandomState,
+    tasks: Tasks<'_, W>,
 ) -> Result<(Started<N, W>, Vec<Ended<W>>), ScriptFault>
-    ensures many { IfOk result (λ r. length r.0.lanes.items ≡ length writers.items) }
+    ensures many { IfOk result (λ r. length r.0.lanes.items ≡ length tasks.entry.writers.items) }
     ensures lanes { IfOk result (λ r. All (λ lane. lane ≡ []) r.0.lanes.items) }
-    ensures handles { IfOk result (λ r. AreFor profile.now 0 writers.items r.0.handles.items) }
+    ensures handles { IfOk result (λ r.
+        AreFor tasks.entry.profile.now 0 tasks.entry.writers.items r.0.handles.items) }
     ensures empty { IfOk result (λ r. r.1.items ≡ []) }
     ensures room { IfOk result (λ r. vec_len r.0.handles ≤ vec_capacity r.1) }
 {
-    let Ok(room) = Vec::with_capacity(alloc, writers.len()) else {
+    let Ok(room) = Vec::with_capacity(alloc, tasks.writers.len()) else {
         return Err(ScriptFault::NoMemory);
     };
-    match start_each::<N, T, W>(rt, alloc, signals, writers, profile, keys) {
+    match start_each::<N, T, W>(rt, alloc, signals, tasks) {
         Ok(started) => Ok((started, room)),
         Err(fault) => {
             signals.wake_all();
@@ -203,19 +231,19 @@ fn run_named<
     rt: T,
     alloc: Global,
     reader: R,
-    writers: Vec<W>,
-    profile: &Profile,
     sorting: Sorting,
     signals: Arc<Signals>,
-    keys: RandomState,
+    tasks: Tasks<'_, W>,
 ) -> Result<Ran<W>, ScriptFault>
-    requires sorted { IsSorted sorting.picking.keys (length writers.items) (λ t. []) sorting [] }
-    requires parts { N.part ≡ part_known sorting.picking.keys (length writers.items) (R.remaining reader) }
-    ensures { IfOk result (λ ran. EachServes (setting_of profile.now built_in_offers) W.contents
-        (part_known sorting.picking.keys (length writers.items) (R.remaining reader)) 0
-        writers.items ran.threads.items) }
+    requires sorted { IsSorted sorting.picking.keys (length tasks.writers.items) (λ t. []) sorting [] }
+    requires parts { N.part
+        ≡ part_known sorting.picking.keys (length tasks.writers.items) (R.remaining reader) }
+    ensures { IfOk result (λ ran.
+        EachServes (setting_of tasks.entry.profile.now built_in_offers) W.contents
+        (part_known sorting.picking.keys (length tasks.entry.writers.items) (R.remaining reader)) 0
+        tasks.entry.writers.items ran.threads.items) }
 {
-    let (started, room) = start_all::<N, T, W>(rt, alloc, &signals, writers, profile, keys)?;
+    let (started, room) = start_all::<N, T, W>(rt, alloc, &signals, tasks)?;
     let Started { lanes, handles } = started;
     let reading = match start_reading(rt, &signals, reader, sorting, lanes) {
         Ok(reading) => reading,
@@ -237,7 +265,7 @@ fn run_named<
 /// Answers each line of many sessions of a profile, in as many threads as there are writers.
 ///
 /// A thread of its own reads in blocks of at most 65,536 octets. What stands in a line before its first space picks the
-/// thread that answers, by a hash with `line_keys`; a thread owns its sessions, and answers as [`serve`] does, on its
+/// thread that answers, by a hash with `keys.lines`; a thread owns its sessions, and answers as [`serve`] does, on its
 /// own writer. The keys are to be random, since strangers choose names. That there is a writer is the caller's
 /// condition.
 ///
@@ -257,17 +285,16 @@ pub fn serve_in_threads<
     reader: R,
     writers: Vec<W>,
     profile: &Profile,
-    line_keys: RandomState,
-    name_keys: RandomState,
+    keys: Keys,
 ) -> Result<Ran<W>, ScriptFault>
     requires { 0 < length writers.items }
     ensures { IfOk result (λ ran. EachServes (setting_of profile.now built_in_offers) W.contents
-        (part_known line_keys (length writers.items) (R.remaining reader)) 0
+        (part_known keys.lines (length writers.items) (R.remaining reader)) 0
         writers.items ran.threads.items) }
 {
     let threads = writers.len();
     let (Ok(sorting), Ok(signals)) = (
-        Sorting::new(alloc, line_keys, threads),
+        Sorting::new(alloc, keys.lines, threads),
         Signals::new(alloc, threads),
     ) else {
         return Err(ScriptFault::NoMemory);
@@ -275,7 +302,10 @@ pub fn serve_in_threads<
     let Ok(signals) = Arc::new(alloc, signals) else {
         return Err(ScriptFault::NoMemory);
     };
-    run_named::<Brand, T, R, W>(
-        rt, alloc, reader, writers, profile, sorting, signals, name_keys,
-    )
+    let tasks = Tasks {
+        writers,
+        profile,
+        keys: keys.names,
+    };
+    run_named::<Brand, T, R, W>(rt, alloc, reader, sorting, signals, tasks)
 }

@@ -55,6 +55,19 @@ impl<N: Leading, W: Write + Drop> Promise<Ended<W>> for Serving<N, W> {
         (N.part p.thread) (W.contents p.writer.value) (W.contents e.writer) };
 }
 
+/// What a thread is to do.
+#[derive(Drop)]
+pub(crate) struct Task<W: Write + Drop> {
+    /// Its number.
+    pub(crate) thread: usize,
+    /// Takes its answers.
+    pub(crate) writer: W,
+    /// The profile of its sessions.
+    pub(crate) profile: Profile,
+    /// For the hash of its sessions' names.
+    pub(crate) keys: RandomState,
+}
+
 /// A thread in which a writer serves.
 pub(crate) type Handle<N, W> = PromisedHandle<Ended<W>, Serving<N, W>>;
 
@@ -112,7 +125,7 @@ fn work<N: Leading, T: Wait + Drop, W: Write + Drop>(
     Ended { writer, end }
 }
 
-/// Starts a thread of this number, which takes from this ring.
+/// Starts a thread, which takes from this ring.
 fn start_thread<
     N: Leading + Send + Sync + 'static,
     T: Threads + Wait + Drop + Send + Sync + Copy + 'static,
@@ -121,17 +134,20 @@ fn start_thread<
     rt: T,
     alloc: Global,
     signals: Arc<Signals>,
-    thread: usize,
     intake: Intake<N, T>,
-    writer: W,
-    profile: Profile,
-    keys: RandomState,
+    task: Task<W>,
 ) -> Result<Handle<N, W>, ScriptFault>
-    requires { left_of N.part intake.led ≡ N.part thread }
-    ensures thread { IfOk result (λ h. h.promise.thread ≡ thread) }
-    ensures profile { IfOk result (λ h. h.promise.profile.value ≡ profile) }
-    ensures writer { IfOk result (λ h. h.promise.writer.value ≡ writer) }
+    requires { left_of N.part intake.led ≡ N.part task.thread }
+    ensures thread { IfOk result (λ h. h.promise.thread ≡ task.thread) }
+    ensures profile { IfOk result (λ h. h.promise.profile.value ≡ task.profile) }
+    ensures writer { IfOk result (λ h. h.promise.writer.value ≡ task.writer) }
 {
+    let Task {
+        thread,
+        writer,
+        profile,
+        keys,
+    } = task;
     let promise = Serving {
         thread,
         profile: Snapshot::of(&profile),
@@ -148,24 +164,16 @@ fn start_thread<
     }
 }
 
-/// Starts a thread of this number, and returns the way that leads to it.
+/// Starts a thread, and returns the way that leads to it.
 pub(crate) fn start<
     N: Leading + Send + Sync + 'static,
     T: Threads + Wait + Drop + Send + Sync + Copy + 'static,
     W: Write + Drop + Send + 'static,
->(
-    rt: T,
-    alloc: Global,
-    signals: &Arc<Signals>,
-    thread: usize,
-    writer: W,
-    profile: Profile,
-    keys: RandomState,
-) -> Result<Shard<N, W>, ScriptFault>
+>(rt: T, alloc: Global, signals: &Arc<Signals>, task: Task<W>) -> Result<Shard<N, W>, ScriptFault>
     ensures lane { IfOk result (λ s. s.lane ≡ []) }
-    ensures thread { IfOk result (λ s. s.handle.promise.thread ≡ thread) }
-    ensures profile { IfOk result (λ s. s.handle.promise.profile.value ≡ profile) }
-    ensures writer { IfOk result (λ s. s.handle.promise.writer.value ≡ writer) }
+    ensures thread { IfOk result (λ s. s.handle.promise.thread ≡ task.thread) }
+    ensures profile { IfOk result (λ s. s.handle.promise.profile.value ≡ task.profile) }
+    ensures writer { IfOk result (λ s. s.handle.promise.writer.value ≡ task.writer) }
 {
     let Ok((way, taker)) = RingBuffer::with_protocol::<Global, InOrder<N>>(alloc, PLACES) else {
         return Err(ScriptFault::NoMemory);
@@ -173,8 +181,8 @@ pub(crate) fn start<
     let (Ok(reading), Ok(working)) = (Arc::try_clone(signals), Arc::try_clone(signals)) else {
         return Err(ScriptFault::NoMemory);
     };
-    let intake = Intake::new(rt, reading, thread, taker, Vec::new(alloc));
-    match start_thread(rt, alloc, working, thread, intake, writer, profile, keys) {
+    let intake = Intake::new(rt, reading, task.thread, taker, Vec::new(alloc));
+    match start_thread(rt, alloc, working, intake, task) {
         Ok(handle) => Ok(Shard {
             lane: Lane::new(way),
             handle,

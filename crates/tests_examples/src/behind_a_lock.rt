@@ -12,9 +12,9 @@ use pcef_catalog::{Catalog, Detects, Offers};
 use pcef_journal::Journal;
 use pcef_journaled::JournaledState;
 use pcef_line::{Line, LineFault, read_line};
-use pcef_lock::{Shared, open_history};
+use pcef_lock::{Opening, Shared, open_history};
 use pcef_model::{Entry, Profile, Report, Step};
-use pcef_publish::{Board, Cell, Opened};
+use pcef_publish::{Board, Cell};
 use pcef_share::{Blanks, Naming};
 use std::alloc::{AllocError, Global};
 use std::marker::Brand;
@@ -162,17 +162,15 @@ fn behind_its_lock<C: Detects + Drop, N: Naming, R: Wait>(
     rt: &R,
     alloc: Global,
     catalog: Arc<C>,
-    session: JournaledState,
-    opened: Opened,
-    blanks: Blanks,
+    opening: Opening,
     worked: &Worked,
 ) -> Result<Played, AllocError>
     requires named { GoesBy N.ledger N.setting N.first N.book N.root
-        session.session opened blanks }
-    requires fresh { session.session.journal ≡ [] }
-    requires offers { C.offers (arc_value catalog) ≡ session.session.setting.catalog }
+        opening.session.session opening.opened opening.blanks }
+    requires fresh { opening.session.session.journal ≡ [] }
+    requires offers { C.offers (arc_value catalog) ≡ opening.session.session.setting.catalog }
 {
-    match Shared::<C, N, _>::open(rt, alloc, catalog, session, opened, blanks, PLACES) {
+    match Shared::<C, N, _>::open(rt, alloc, catalog, opening) {
         Ok((shared, desk)) => {
             let crew = Crew::new(alloc, desk)?;
             play_to_the_end(rt, alloc, shared, crew, worked)
@@ -196,5 +194,11 @@ pub fn play<R: Wait>(
     let Ok(opened) = open_history(&session) else {
         return Err(AllocError);
     };
-    behind_its_lock::<Catalog, Brand, _>(rt, alloc, catalog, session, opened, Blanks::new(), worked)
+    let opening = Opening {
+        session,
+        opened,
+        blanks: Blanks::new(),
+        places: PLACES,
+    };
+    behind_its_lock::<Catalog, Brand, _>(rt, alloc, catalog, opening, worked)
 }

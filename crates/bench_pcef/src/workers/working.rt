@@ -2,7 +2,7 @@
 
 use super::alone::judged_alone;
 use super::opening::{give_commands, packets_of};
-use super::{Load, Work};
+use super::{Host, Load, Work};
 use crate::laps::{Lap, spread};
 use pcef_catalog::Detects;
 use pcef_lock::{Desk, Finished, Shared, Totals};
@@ -75,8 +75,7 @@ fn flush_each<C: Detects + Drop, N: Naming, W: Board<Cell<N>> + Drop, R: Wait>(
 
 /// Takes packets and flushes, `batches` times, and times each flush.
 fn time_each<C: Detects + Drop, N: Naming, W: Board<Cell<N>> + Drop, R: Wait, K: Clock>(
-    rt: &R,
-    clock: &K,
+    host: &Host<'_, R, K>,
     shared: &Shared<C, N, W>,
     worker: &mut Worker<C, N, OpenGate>,
     packets: &[Header],
@@ -85,9 +84,9 @@ fn time_each<C: Detects + Drop, N: Naming, W: Board<Cell<N>> + Drop, R: Wait, K:
 ) -> Option<()> {
     for batch in 0..batches {
         take_each(worker, packets_of(packets, batch));
-        let mut lap = Lap::begin(clock).ok()?;
-        worker.flush(rt, shared).ok()?;
-        flushes.push(lap.end(clock).ok()?).ok()?;
+        let mut lap = Lap::begin(host.clock).ok()?;
+        worker.flush(host.rt, shared).ok()?;
+        flushes.push(lap.end(host.clock).ok()?).ok()?;
     }
     Some(())
 }
@@ -113,25 +112,15 @@ fn handed_over<C: Detects + Drop, N: Naming, W: Board<Cell<N>> + Drop, R: Wait>(
 
 /// The outcome of a worker that attaches, takes packets, times each flush and finishes.
 fn time_worker<C: Detects + Drop, N: Naming, W: Board<Cell<N>> + Drop, R: Wait, K: Clock>(
-    rt: &R,
-    clock: &K,
-    alloc: Global,
+    host: &Host<'_, R, K>,
     shared: &Shared<C, N, W>,
     packets: &[Header],
     batches: u32,
 ) -> Option<Left<N>> {
-    let mut flushes = Vec::with_capacity(alloc, batches as usize).ok()?;
-    let mut worker = Worker::attach(rt, alloc, shared, OpenGate).ok()?;
-    let _ = time_each(
-        rt,
-        clock,
-        shared,
-        &mut worker,
-        packets,
-        batches,
-        &mut flushes,
-    );
-    finish_worker(rt, shared, worker, flushes)
+    let mut flushes = Vec::with_capacity(host.alloc, batches as usize).ok()?;
+    let mut worker = Worker::attach(host.rt, host.alloc, shared, OpenGate).ok()?;
+    let _ = time_each(host, shared, &mut worker, packets, batches, &mut flushes);
+    finish_worker(host.rt, shared, worker, flushes)
 }
 
 /// Finishes a worker, and returns its outcome.
@@ -151,17 +140,16 @@ fn finish_worker<C: Detects + Drop, N: Naming, W: Board<Cell<N>> + Drop, R: Wait
 
 /// The outcome of a worker that does as `load` asks.
 fn work_off<C: Detects + Drop, N: Naming, W: Board<Cell<N>> + Drop, R: Wait, K: Clock>(
-    rt: &R,
-    clock: &K,
-    alloc: Global,
+    host: &Host<'_, R, K>,
     shared: &Shared<C, N, W>,
     packets: &[Header],
     load: Load,
 ) -> Option<Left<N>> {
+    let (rt, alloc) = (host.rt, host.alloc);
     match load.work {
         Work::Flush => handed_over(rt, alloc, shared, packets, load.batches, true),
         Work::CountedFlush => handed_over(rt, alloc, shared, packets, load.batches, false),
-        Work::TimedFlush => time_worker(rt, clock, alloc, shared, packets, load.batches),
+        Work::TimedFlush => time_worker(host, shared, packets, load.batches),
         Work::Own => judged_alone(rt, alloc, shared, packets, load.batches, false),
         Work::Read => judged_alone(rt, alloc, shared, packets, load.batches, true),
     }
@@ -203,19 +191,17 @@ fn work_each<
     R: Threads + Wait + Sync,
     K: Clock + Sync,
 >(
-    rt: &R,
-    clock: &K,
-    alloc: Global,
+    host: &Host<'_, R, K>,
     shared: &Shared<C, N, W>,
     packets: &[Header],
     load: Load,
 ) -> Option<(AllLeft<N>, u64)> {
     let workers = usize::from(load.workers);
-    let mut lap = Lap::begin(clock).ok()?;
-    let work = |_: usize| work_off(rt, clock, alloc, shared, packets, load);
-    let left = map_indices(rt, alloc, workers, &work).ok()?;
-    let nanoseconds = lap.end(clock).ok()?;
-    Some((together(alloc, left)?, nanoseconds))
+    let mut lap = Lap::begin(host.clock).ok()?;
+    let work = |_: usize| work_off(host, shared, packets, load);
+    let left = map_indices(host.rt, host.alloc, workers, &work).ok()?;
+    let nanoseconds = lap.end(host.clock).ok()?;
+    Some((together(host.alloc, left)?, nanoseconds))
 }
 
 /// Gives the commands, and lets the workers do their work.
@@ -226,16 +212,14 @@ fn worked_off<
     R: Threads + Wait + Sync,
     K: Clock + Sync,
 >(
-    rt: &R,
-    clock: &K,
-    alloc: Global,
+    host: &Host<'_, R, K>,
     shared: &Shared<C, N, W>,
     desk: &mut Desk<N>,
     packets: &[Header],
     load: Load,
 ) -> Option<(AllLeft<N>, u64)> {
-    give_commands(rt, alloc, shared, desk, load)?;
-    work_each(rt, clock, alloc, shared, packets, load)
+    give_commands(host.rt, host.alloc, shared, desk, load)?;
+    work_each(host, shared, packets, load)
 }
 
 /// The outcome of the workers of a session.
@@ -246,16 +230,14 @@ pub fn outcome_of<
     R: Threads + Wait + Sync,
     K: Clock + Sync,
 >(
-    rt: &R,
-    clock: &K,
-    alloc: Global,
+    host: &Host<'_, R, K>,
     shared: Shared<C, N, W>,
     mut desk: Desk<N>,
     packets: &[Header],
     load: Load,
 ) -> Option<Reached> {
-    match worked_off(rt, clock, alloc, &shared, &mut desk, packets, load) {
-        Some((left, nanoseconds)) => outcome_behind(rt, shared, desk, left, nanoseconds),
+    match worked_off(host, &shared, &mut desk, packets, load) {
+        Some((left, nanoseconds)) => outcome_behind(host.rt, shared, desk, left, nanoseconds),
         None => None,
     }
 }

@@ -8,26 +8,18 @@ use pcef_model::Profile;
 use pcef_output::Fused;
 use pcef_script::ScriptFault;
 use pcef_sessions::{serve, serve_frames};
-use pcef_shards::{Ended, Outlet, Ran, serve_in_threads};
+use pcef_shards::{Ended, Keys, Outlet, Ran, serve_in_threads};
 use std::hash::RandomState;
 use std::io::{self, BufWriter, Write};
 use std::rt::Stdout;
 use std::sync::{Arc, Mutex, Wait};
 use std::thread::Threads;
 
-/// Random keys for two hashes: that which picks a line's thread, and that of names in a thread.
-#[derive(Clone, Copy)]
-pub(crate) struct Keys {
-    pub lines: RandomState,
-    pub names: RandomState,
-}
-
-impl Keys {
-    pub(crate) fn new(rt: &HostRuntime) -> io::Result<Keys> {
-        let lines = RandomState::new(rt)?;
-        let names = RandomState::new(rt)?;
-        Ok(Keys { lines, names })
-    }
+/// New keys.
+pub(crate) fn random_keys(rt: &HostRuntime) -> io::Result<Keys> {
+    let lines = RandomState::new(rt)?;
+    let names = RandomState::new(rt)?;
+    Ok(Keys { lines, names })
 }
 
 /// How a fault of the lines ends the program.
@@ -189,15 +181,7 @@ fn serve_all<T: Threads + Wait + Drop + Send + Sync + Copy + 'static>(
         return Ok(false);
     }
     let alloc = rt.alloc();
-    let ran = serve_in_threads(
-        starting,
-        alloc,
-        watched_input(rt),
-        ways,
-        profile,
-        keys.lines,
-        keys.names,
-    )?;
+    let ran = serve_in_threads(starting, alloc, watched_input(rt), ways, profile, keys)?;
     end_of_all(ran)
 }
 

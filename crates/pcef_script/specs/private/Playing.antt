@@ -1,5 +1,5 @@
 -- The findings of a world that plays lines: for private clauses.
-use Rattle.std.specs.Prelude.{ℕ, ◌≡◌, ◌++◌, List, Option, Ok, string_bytes}
+use Rattle.std.specs.Prelude.{ℕ, ◌≡◌, List, Option, Ok, string_bytes}
 use Rattle.pcef_model.specs.Journals.{gen}
 use Rattle.pcef_model.specs.declared.step.Step.{Step}
 use Rattle.pcef_line.specs.declared.line.Line.{Line}
@@ -10,7 +10,7 @@ use Rattle.pcef_answer.specs.StepAnswers.{reply_text}
 use Rattle.pcef_world.specs.Steps.{Standing, reply_of, standing_of}
 use Rattle.pcef_world.specs.Worlds.{World}
 use Rattle.pcef_world.specs.declared.answer.StepAnswer.{StepAnswer}
-use Rattle.pcef_script.specs.Findings.{Finds, FindsDue, FindsLine, IsFindingOf, as_list, finding_in}
+use Rattle.pcef_script.specs.Findings.{Finds, FindsDue, FindsLine, IsFindingOf, finding_in}
 use Rattle.pcef_script.specs.declared.finding.Finding.{Finding}
 use Rattle.pcef_script.specs.declared.finding.Found.TheVariants as found
 
@@ -33,11 +33,6 @@ PlaysStep before number s finding after = PlaysLine before number (line.Step s) 
 -- a world does what the bytes of a line ask for
 abbrev pub PlaysBytes : World → ℕ → List ℕ → Option Finding → World → Type 0
 PlaysBytes before number bytes finding after = FindsLine before.session.setting (standing_of before) number bytes finding (standing_of after)
-
--- and its finding is appended to those before
-abbrev pub AddsLine : World → ℕ → List ℕ → List Finding → List Finding → World → Type 0
-AddsLine before number bytes old new after =
-    (finding : Option Finding) × PlaysBytes before number bytes finding after × (new ≡ old ++ as_list finding)
 
 -- lines one after the other
 abbrev pub PlaysLines : World → List (List ℕ) → List Finding → Type 0

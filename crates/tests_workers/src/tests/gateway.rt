@@ -9,7 +9,7 @@ mod workers;
 
 use crate::tests::sessions::{monitor, packet, session, vid, web};
 use pcef_catalog::Catalog;
-use pcef_gateway::{Arrival, Ended, RunFault, run_session};
+use pcef_gateway::{Arrival, Ended, RunFault, Workload, run_session};
 use pcef_journaled::JournaledState;
 use pcef_model::Command;
 use pcef_packet::PackedHeader;
@@ -63,22 +63,27 @@ fn packets(alloc: Global, each: u32, workers: u8) -> Result<Vec<Arrival>, Fail> 
     Ok(arrivals)
 }
 
+/// Packets for so many workers, and no command.
+fn without_commands(alloc: Global, arrivals: Vec<Arrival>, workers: u8) -> Workload {
+    Workload {
+        arrivals,
+        commands: Vec::new(alloc),
+        workers,
+    }
+}
+
 /// Runs a session with an empty catalog.
 fn run<G: Gate + Sync, R: Threads + Wait + Sync>(
     rt: &R,
     alloc: Global,
     session: JournaledState,
-    arrivals: Vec<Arrival>,
-    commands: Vec<Command>,
-    workers: u8,
+    load: Workload,
     gate: &G,
 ) -> Result<Result<Ended, RunFault>, Fail>
     requires { (attach_count session.session.journal ≡ 0) × (session.session.setting.catalog ≡ []) }
 {
     let catalog = Arc::new(alloc, Catalog::new(alloc, Vec::new(alloc))?)?;
-    Ok(run_session(
-        rt, alloc, catalog, session, arrivals, commands, workers, gate,
-    ))
+    Ok(run_session(rt, alloc, catalog, session, load, gate))
 }
 
 /// The outcome of a run, where it has the key `vid` or none.

@@ -8,10 +8,9 @@ ghost use Rattle.pcef_lock.specs.Opening.{GoesBy};
 use crate::tests::expect_equal;
 use crate::tests::sessions::{monitor, packet, session, web};
 use pcef_catalog::{Catalog, Detects, Offers};
-use pcef_journaled::JournaledState;
-use pcef_lock::{Desk, Finished, Shared, Totals, open_history};
+use pcef_lock::{Desk, Finished, Opening, Shared, Totals, open_history};
 use pcef_model::{Accepted, Body, Command, Judged, Refusal, Report, Verdict, Verdicts};
-use pcef_publish::{Board, Cell, Opened};
+use pcef_publish::{Board, Cell};
 use pcef_rule::KeyName;
 use pcef_share::{Blanks, Naming};
 use pcef_worker::{Gate, OpenGate, Point, Worker};
@@ -271,17 +270,15 @@ fn behind_its_lock<
     rt: &R,
     alloc: Global,
     catalog: Arc<C>,
-    session: JournaledState,
-    opened: Opened,
-    blanks: Blanks,
+    opening: Opening,
     commands: [Command; 2],
 ) -> Option<Outcome>
     requires named { GoesBy N.ledger N.setting N.first N.book N.root
-        session.session opened blanks }
-    requires fresh { session.session.journal ≡ [] }
-    requires offers { C.offers (arc_value catalog) ≡ session.session.setting.catalog }
+        opening.session.session opening.opened opening.blanks }
+    requires fresh { opening.session.session.journal ≡ [] }
+    requires offers { C.offers (arc_value catalog) ≡ opening.session.session.setting.catalog }
 {
-    match Shared::<C, N, _>::open(rt, alloc, catalog, session, opened, blanks, 2) {
+    match Shared::<C, N, _>::open(rt, alloc, catalog, opening) {
         Ok((shared, desk)) => to_the_end(rt, alloc, shared, desk, commands),
         Err(_) => None,
     }
@@ -292,15 +289,13 @@ fn play<R: Threads + Wait + Sync>(rt: &R, alloc: Global) -> Result<Option<Outcom
     let session = session(alloc, 1000)?;
     let opened = open_history(&session)?;
     let catalog = Arc::new(alloc, Catalog::new(alloc, Vec::new(alloc))?)?;
-    Ok(behind_its_lock::<Catalog, Brand, _>(
-        rt,
-        alloc,
-        catalog,
+    let opening = Opening {
         session,
         opened,
-        Blanks::new(),
-        commands,
-    ))
+        blanks: Blanks::new(),
+        places: 2,
+    };
+    Ok(behind_its_lock::<Catalog, Brand, _>(rt, alloc, catalog, opening, commands))
 }
 
 // A worker that came before both commands meets the generation that they made. The row's octets reach the session

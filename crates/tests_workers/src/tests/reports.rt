@@ -7,10 +7,9 @@ ghost use Rattle.pcef_lock.specs.Opening.{GoesBy};
 use crate::tests::expect_equal;
 use crate::tests::sessions::session;
 use pcef_catalog::{Catalog, Offers};
-use pcef_journaled::JournaledState;
-use pcef_lock::{Desk, Shared, open_history};
+use pcef_lock::{Desk, Opening, Shared, open_history};
 use pcef_model::{AccessKind, Command, NoticeValue, Report, TriggerSet};
-use pcef_publish::{Board, Cell, Opened};
+use pcef_publish::{Board, Cell};
 use pcef_share::{Blanks, Naming};
 use std::alloc::Global;
 use std::marker::Brand;
@@ -82,16 +81,14 @@ fn behind_its_lock<C: Offers + Drop, N: Naming, R: Wait>(
     rt: &R,
     alloc: Global,
     catalog: Arc<C>,
-    session: JournaledState,
-    opened: Opened,
-    blanks: Blanks,
+    opening: Opening,
 ) -> [Option<Collected>; 4]
     requires named { GoesBy N.ledger N.setting N.first N.book N.root
-        session.session opened blanks }
-    requires fresh { session.session.journal ≡ [] }
-    requires offers { C.offers (arc_value catalog) ≡ session.session.setting.catalog }
+        opening.session.session opening.opened opening.blanks }
+    requires fresh { opening.session.session.journal ≡ [] }
+    requires offers { C.offers (arc_value catalog) ≡ opening.session.session.setting.catalog }
 {
-    match Shared::<C, N, _>::open(rt, alloc, catalog, session, opened, blanks, 1) {
+    match Shared::<C, N, _>::open(rt, alloc, catalog, opening) {
         Ok((shared, desk)) => all_collected(rt, &shared, desk),
         Err(_) => [None; 4],
     }
@@ -101,7 +98,13 @@ fn play<R: Wait>(rt: &R, alloc: Global) -> Result<[Option<Collected>; 4], Fail> 
     let session = session(alloc, 1000)?;
     let opened = open_history(&session)?;
     let catalog = Arc::new(alloc, Catalog::new(alloc, Vec::new(alloc))?)?;
-    Ok(behind_its_lock::<Catalog, Brand, _>(rt, alloc, catalog, session, opened, Blanks::new()))
+    let opening = Opening {
+        session,
+        opened,
+        blanks: Blanks::new(),
+        places: 1,
+    };
+    Ok(behind_its_lock::<Catalog, Brand, _>(rt, alloc, catalog, opening))
 }
 
 // No report is left behind for the next time, however many there are.

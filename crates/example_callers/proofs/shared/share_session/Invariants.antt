@@ -5,4 +5,4 @@ use Rattle.example_callers.proofs.shared.share_session.Given as goal
 -- the name of the session, of the blanks and of the opened history
 abbrev pub ghosts-behind_its_lock : goal.ghosts-behind_its_lock
 ghosts-behind_its_lock g a =
-    record { ledger = ledger_at a.blanks; setting = a.session.session.setting; book = a.opened.book; root = a.opened.root; first = gen a.session.session.journal }
+    record { ledger = ledger_at a.opening.blanks; setting = a.opening.session.session.setting; book = a.opening.opened.book; root = a.opening.opened.root; first = gen a.opening.session.session.journal }

@@ -5,7 +5,7 @@ use Rattle.pcef_capture_script.proofs.writing.write_behind.Goals as goal
 
 pub returns-in-Ok : goal.returns-in-Ok
 returns-in-Ok g c = λ before input consumes reached.
-    c.write_rest.ensures before input consumes (subst (Reached input [] c.args.stream.now) (sym c.in-Ok.ensures) reached)
+    c.write_rest.ensures before input consumes (subst (Reached input [] c.args.opened.stream) (sym c.in-Ok.ensures) reached)
 
-pub returns-in-Err : goal.returns-in-Err
-returns-in-Err g c = λ before input consumes reached. (input, consumes, inr (Appends-nil _))
+pub returns : goal.returns
+returns g c = λ before input consumes reached. (input, consumes, inr (Appends-nil _))

@@ -5,4 +5,4 @@ use Rattle.pcef_gateway.proofs.run.run_known.Given as goal
 -- the name of the session, of the blanks and of the opened history
 abbrev pub ghosts-run_named : goal.ghosts-run_named
 ghosts-run_named g a =
-    record { ledger = ledger_at a.unshared.blanks; setting = a.unshared.session.session.setting; book = a.unshared.opened.book; root = a.unshared.opened.root; first = gen a.unshared.session.session.journal }
+    record { ledger = ledger_at a.opening.blanks; setting = a.opening.session.session.setting; book = a.opening.opened.book; root = a.opening.opened.root; first = gen a.opening.session.session.journal }

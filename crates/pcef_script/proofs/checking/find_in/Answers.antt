@@ -30,11 +30,11 @@ loop-lines-preserved g c =
     record {
       lines = i.lines ++ line ∷ [];
       whole = i.whole ∙ ap (λ t. i.lines ++ t) first.0 ∙ sym (append_assoc i.lines (line ∷ []) (all_lines later));
-      finds = finds_added w c.loop-lines.world c.take_line.new.world (c.loop-lines.number + 1) i.lines line c.loop-lines.found.items c.take_line.new.found.items
-          i.setting (omega (arith, i.number)) i.finds c.in_ok-take_line.ensures.found;
+      finds = finds_added w c.loop-lines.world c.play.new.world (c.loop-lines.number + 1) i.lines line c.loop-lines.found.items c.push.new.found.items c.in_ok-next.next
+          i.setting (omega (arith, i.number)) i.finds c.in_ok-next.ensures.found c.in_ok-push.ensures;
       number = ap (λ n. n + 1) i.number ∙ sym longer;
       room = omega (arith, i.room, first.1);
-      setting = c.take_line.ensures.setting ∙ i.setting;
+      setting = c.play.ensures.setting ∙ i.setting;
     }
 
 pub returns-in-None : goal.returns-in-None
@@ -45,9 +45,9 @@ returns-in-None g c =
     let first : IsFirstLine c.loop-lines.rest.now line None =
     subst (λ o. IsFirstLine c.loop-lines.rest.now line (option_map (λ r. r.now) o)) c.in-None.is c.first_line.ensures in
     let whole : all_lines c.args.input.now ≡ i.lines ++ line ∷ [] = i.whole ∙ ap (λ t. i.lines ++ t) first in
-    let after = standing_of c.take_line.new.world in (
+    let after = standing_of c.play.new.world in (
       after,
-      subst (λ ls. Finds w.session.setting (standing_of w) 1 ls c.take_line.new.found.items after) (sym whole)
-          (finds_added w c.loop-lines.world c.take_line.new.world (c.loop-lines.number + 1) i.lines line c.loop-lines.found.items c.take_line.new.found.items
-          i.setting (omega (arith, i.number)) i.finds c.in_ok-take_line.ensures.found),
+      subst (λ ls. Finds w.session.setting (standing_of w) 1 ls c.push.new.found.items after) (sym whole)
+          (finds_added w c.loop-lines.world c.play.new.world (c.loop-lines.number + 1) i.lines line c.loop-lines.found.items c.push.new.found.items c.in_ok-next.next
+          i.setting (omega (arith, i.number)) i.finds c.in_ok-next.ensures.found c.in_ok-push.ensures),
     )

@@ -48,9 +48,9 @@ returns-in-Ok-eq0-clause-answers g c =
     subst (Consumes (remaining c.args.reader.now) (remaining c.read_some.new.reader)) (ap (λ t. h.input ++ t) none ∙ append-nil h.input) (Consumes-trans (remaining c.args.reader.now) (remaining c.loop-script.reader) (remaining c.read_some.new.reader) h.input _ h.read got.0) in
     let kept = kept_now script.line h.input h.after.kept in
     let few = few_faults p (contents c.args.writer.now) a script.line script.faults script.world h.input h.after in
-    let ok = subst (λ s. IfOk c.end_line.result (λ n. EndsLine s script.world c.end_line.new.world (last_line h.input) script.faults n a b)) h.after.setting (c.end_line.ensures.ok (last_line h.input) kept few) in
+    let ok = subst (λ s. IfOk c.end_line.result (λ n. EndsLine s script.world c.end_line.new.script.world (last_line h.input) script.faults n a b)) h.after.setting (c.end_line.ensures.ok (last_line h.input) kept few) in
     let err = subst (λ s. IfErr c.end_line.result (λ e. EndFails s script.world (last_line h.input) e a b)) h.after.setting (c.end_line.ensures.err (last_line h.input) kept) in
-    (h.input, all, end_within c.end_line.result p script.world (last_line h.input) h.input a b h.after.most err, at_end c.end_line.result p (contents c.args.writer.now) a b (remaining c.read_some.new.reader) script.line script.faults script.world c.end_line.new.world h.input h.after (got.1 zero room) ok err)
+    (h.input, all, end_within c.end_line.result p script.world (last_line h.input) h.input a b h.after.most err, at_end c.end_line.result p (contents c.args.writer.now) a b (remaining c.read_some.new.reader) script.line script.faults script.world c.end_line.new.script.world h.input h.after (got.1 zero room) ok err)
 
 pub loop-script-smaller : goal.loop-script-smaller
 loop-script-smaller g c =

@@ -36,14 +36,14 @@ returns-clause-ok g c = λ p start input h.
     let script = c.args.script.now in
     let contents = g.W.Write.contents in
     let flag = c.in_ok-take.field-0 in
-    let world = c.end_line.new.world in
+    let world = c.end_line.new.script.world in
     let old = contents c.args.writer.now in
     let new = contents c.end_line.new.writer in
     let lt = was_within flag script.line input h.kept c.in_ok-take.ensures.much.1 in
     let took = took_end flag c.args.byte (last_line input) script.line c.take.new.self c.if-not-branch.false (c.in_ok-take.ensures.line (last_line input) (kept_now script.line input h.kept)) in
     let few = few_faults p start old script.line script.faults script.world input h in
     let ends = c.in_ok-script.ensures.ok (last_line input) (kept_at c.take.new.self (last_line input) (script.line.read + 1) took.1) few in
-    let cleared = c.clear.ensures ∙ ap (kept_of []) (ap (λ (k : KeptLine). k.read) took.1) in
+    let cleared = c.clear.ensures ∙ ap (λ (k : KeptLine). kept_of [] k.read) c.end_line.ensures.line ∙ ap (kept_of []) (ap (λ (k : KeptLine). k.read) took.1) in
     let setting = (c.end_line.ensures.setting ∙ h.setting) in
     rw took.0 (line_ends p start old new script.line c.clear.new.self script.faults c.in_ok-script.field-0 script.world world input h lt cleared setting
     (subst (λ s. EndsLine s script.world world (last_line input) script.faults c.in_ok-script.field-0 old new) h.setting ends))

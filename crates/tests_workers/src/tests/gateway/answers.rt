@@ -51,9 +51,13 @@ fn are_due(ended: &Ended) -> bool {
 #[test]
 fn an_answer_among_the_packets_is_whole(rt: HostRuntime) -> Result<(), Fail> {
     let alloc = rt.alloc();
-    let (arrivals, commands) = (packets(alloc, 50, 1)?, commands(alloc)?);
+    let load = Workload {
+        arrivals: packets(alloc, 50, 1)?,
+        commands: commands(alloc)?,
+        workers: 1,
+    };
     let session = session(alloc, 1000)?;
-    let ended = run(&rt, alloc, session, arrivals, commands, 1, &OpenGate)??;
+    let ended = run(&rt, alloc, session, load, &OpenGate)??;
     expect_equal(&rt, &are_due(&ended), &true);
     Ok(())
 }

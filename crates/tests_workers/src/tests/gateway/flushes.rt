@@ -67,8 +67,8 @@ fn packets_that_came_meanwhile_are_handed_over_together(rt: HostRuntime) -> Resu
         flushes: AtomicU64::new(0),
         answered: AtomicBool::new(false),
     };
-    let (arrivals, commands) = (packets_of_two(alloc, 65, 1)?, Vec::new(alloc));
-    let ended = run(&rt, alloc, monitored(alloc)?, arrivals, commands, 2, &gate)??;
+    let load = without_commands(alloc, packets_of_two(alloc, 65, 1)?, 2);
+    let ended = run(&rt, alloc, monitored(alloc)?, load, &gate)??;
     let outcome = figures_of(ended).unwrap_or_default();
     expect_equal(&rt, &(outcome.rows, outcome.dropped), &(66, 0));
     assert!(rt; gate.flushes.load(Ordering::SeqCst) <= 4);
@@ -91,10 +91,13 @@ fn what_comes_during_a_flush_judges_the_packets_behind_it(rt: HostRuntime) -> Re
         flushes: AtomicU64::new(0),
         answered: AtomicBool::new(false),
     };
-    let arrivals = packets_and_strangers(alloc, 65)?;
-    let commands = vec![in alloc; Command::Install(web(alloc)?)]?;
+    let load = Workload {
+        arrivals: packets_and_strangers(alloc, 65)?,
+        commands: vec![in alloc; Command::Install(web(alloc)?)]?,
+        workers: 2,
+    };
     let session = accepted(session(alloc, 1000)?, monitor(1_000_000)?)?;
-    let ended = run(&rt, alloc, session, arrivals, commands, 2, &gate)??;
+    let ended = run(&rt, alloc, session, load, &gate)??;
     let outcome = figures_of(ended).unwrap_or_default();
     expect_equal(&rt, &outcome.rows, &130);
     assert!(rt; outcome.counted / 28 >= 33);
@@ -125,8 +128,8 @@ fn a_refused_flush_is_answered_too(rt: HostRuntime) -> Result<(), Fail> {
         begun: AtomicU64::new(0),
         answered: AtomicU64::new(0),
     };
-    let (arrivals, commands) = (packets_of_two(alloc, 40, 0)?, Vec::new(alloc));
-    let ended = run(&rt, alloc, session(alloc, 1)?, arrivals, commands, 1, &gate)??;
+    let load = without_commands(alloc, packets_of_two(alloc, 40, 0)?, 1);
+    let ended = run(&rt, alloc, session(alloc, 1)?, load, &gate)??;
     assert!(rt; figures_of(ended).is_some());
     let begun = gate.begun.load(Ordering::SeqCst);
     assert!(rt; begun > 0 && gate.answered.load(Ordering::SeqCst) == begun);
@@ -171,9 +174,9 @@ fn a_worker_whose_rows_are_refused_flushes_no_more(rt: HostRuntime) -> Result<()
     let gate = CountsThree {
         flushes: AtomicU64::new(0),
     };
-    let (arrivals, commands) = (packets_of_two(alloc, 3, 200)?, Vec::new(alloc));
+    let load = without_commands(alloc, packets_of_two(alloc, 3, 200)?, 2);
     let session = session(alloc, 1)?;
-    let ended = run(&rt, alloc, session, arrivals, commands, 2, &gate)??;
+    let ended = run(&rt, alloc, session, load, &gate)??;
     assert!(rt; figures_of(ended).is_some());
     assert!(rt; gate.flushes.load(Ordering::SeqCst) <= 2);
     Ok(())

@@ -50,8 +50,8 @@ impl Gate for FirstOneFirst {
 fn rows_are_handed_over_while_the_ring_goes_on(rt: HostRuntime) -> Result<(), Fail> {
     let alloc = rt.alloc();
     let gate = FirstOneFirst::new();
-    let (arrivals, commands) = (packets_of_two(alloc, 3, 200)?, Vec::new(alloc));
-    let ended = run(&rt, alloc, monitored(alloc)?, arrivals, commands, 2, &gate)??;
+    let load = without_commands(alloc, packets_of_two(alloc, 3, 200)?, 2);
+    let ended = run(&rt, alloc, monitored(alloc)?, load, &gate)??;
     let expected = Figures {
         rows: 203,
         counted: 5684,
@@ -78,10 +78,13 @@ fn packets_around_a_pause(alloc: Global) -> Result<Vec<Arrival>, Fail> {
 fn a_packet_after_a_pause_is_judged_by_the_newest_rules(rt: HostRuntime) -> Result<(), Fail> {
     let alloc = rt.alloc();
     let gate = FirstOneFirst::new();
-    let arrivals = packets_around_a_pause(alloc)?;
-    let commands = vec![in alloc; Command::Install(web(alloc)?)]?;
+    let load = Workload {
+        arrivals: packets_around_a_pause(alloc)?,
+        commands: vec![in alloc; Command::Install(web(alloc)?)]?,
+        workers: 2,
+    };
     let session = accepted(session(alloc, 1000)?, monitor(1_000_000)?)?;
-    let ended = run(&rt, alloc, session, arrivals, commands, 2, &gate)??;
+    let ended = run(&rt, alloc, session, load, &gate)??;
     let outcome = figures_of(ended).unwrap_or_default();
     expect_equal(&rt, &(outcome.rows, outcome.counted), &(200, 2800));
     assert!(rt; !gate.gave_up.load(Ordering::SeqCst));

@@ -69,17 +69,8 @@ impl Gate for Meeting {
 fn workers_run_at_once(rt: HostRuntime) -> Result<(), Fail> {
     let alloc = rt.alloc();
     let meeting = Meeting::new();
-    let arrivals = packets(alloc, 1, 2)?;
-    let commands = Vec::new(alloc);
-    let ended = run(
-        &rt,
-        alloc,
-        monitored(alloc)?,
-        arrivals,
-        commands,
-        2,
-        &meeting,
-    )??;
+    let load = without_commands(alloc, packets(alloc, 1, 2)?, 2);
+    let ended = run(&rt, alloc, monitored(alloc)?, load, &meeting)??;
     assert!(rt; meeting.took_place());
     expect_equal(&rt, &figures_of(ended), &Some(TWO_COUNTED));
     Ok(())
@@ -110,9 +101,8 @@ fn packets_wait_for_a_worker_that_is_held_up(rt: HostRuntime) -> Result<(), Fail
     let delay = Delay {
         begun: AtomicBool::new(false),
     };
-    let arrivals = packets(alloc, 200, 1)?;
-    let commands = Vec::new(alloc);
-    let ended = run(&rt, alloc, monitored(alloc)?, arrivals, commands, 1, &delay)??;
+    let load = without_commands(alloc, packets(alloc, 200, 1)?, 1);
+    let ended = run(&rt, alloc, monitored(alloc)?, load, &delay)??;
     let expected = Figures {
         rows: 200,
         counted: 5600,

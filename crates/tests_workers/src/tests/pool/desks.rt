@@ -8,8 +8,8 @@ ghost use Rattle.pcef_lock.specs.Opening.{GoesBy};
 
 use super::*;
 use pcef_journaled::JournaledState;
-use pcef_lock::{Desk, Pool, Shared, Totals, open_history};
-use pcef_publish::{Board, Cell, Opened, Writer};
+use pcef_lock::{Desk, Opening, Pool, Shared, Totals, open_history};
+use pcef_publish::{Board, Cell, Writer};
 use pcef_share::{Blanks, Naming, Pooling, RateBlanks, RateShares};
 use std::marker::Brand;
 use std::sync::Arc;
@@ -44,25 +44,37 @@ struct Left<P: Pooling> {
 #[derive(Drop)]
 struct Side {
     catalog: Arc<Listing>,
-    session: JournaledState,
-    opened: Opened,
+    opening: Opening,
+}
+
+/// A session behind its lock, and its desk.
+#[derive(Drop)]
+struct Locked<'p, N: Naming, W: Board<Cell<N>> + Drop, P: Pooling> {
+    shared: Shared<'p, Listing, N, W, P>,
+    desk: Desk<N>,
 }
 
 /// A new session, or nothing when out of memory.
 fn new_side(alloc: Global) -> Option<Side>
-    ensures fresh { IfSome result (λ s. s.session.session.journal ≡ []) }
-    ensures offers { IfSome result (λ s. arc_value s.catalog ≡ s.session.session.setting.catalog) }
-    ensures table { IfSome result (λ s. ShowsNewest s.session.session s.opened.table) }
+    ensures fresh { IfSome result (λ s. s.opening.session.session.journal ≡ []) }
+    ensures offers { IfSome result (λ s.
+        arc_value s.catalog ≡ s.opening.session.session.setting.catalog) }
+    ensures table { IfSome result (λ s.
+        ShowsNewest s.opening.session.session s.opening.opened.table) }
 {
     let (profile, listing) = asked(alloc)?;
     let catalog = Arc::new(alloc, listing.share().ok()?).ok()?;
     let session = JournaledState::open(alloc, profile, listing).ok()?;
     match open_history(&session).ok() {
-        Some(opened) => Some(Side {
-            catalog,
-            session,
-            opened,
-        }),
+        Some(opened) => {
+            let opening = Opening {
+                session,
+                opened,
+                blanks: Blanks::new(),
+                places: 1,
+            };
+            Some(Side { catalog, opening })
+        }
         None => None,
     }
 }
@@ -73,20 +85,18 @@ fn behind_lock<'p, N: Naming, P: Pooling, R: Wait + Drop>(
     alloc: Global,
     pool: &'p Pool<P>,
     side: Side,
-    blanks: Blanks,
-) -> Option<(Shared<'p, Listing, N, Writer<N, R>, P>, Desk<N>)>
+) -> Option<Locked<'p, N, Writer<N, R>, P>>
     requires named { GoesBy N.ledger N.setting N.first N.book N.root
-        side.session.session side.opened blanks }
+        side.opening.session.session side.opening.opened side.opening.blanks }
     requires there { P.is_there ≡ true }
-    requires fresh { side.session.session.journal ≡ [] }
-    requires offers { arc_value side.catalog ≡ side.session.session.setting.catalog }
+    requires fresh { side.opening.session.session.journal ≡ [] }
+    requires offers { arc_value side.catalog ≡ side.opening.session.session.setting.catalog }
 {
-    let Side {
-        catalog,
-        session,
-        opened,
-    } = side;
-    Shared::open_within(rt, alloc, catalog, session, opened, blanks, 1, pool).ok()
+    let Side { catalog, opening } = side;
+    match Shared::open_within(rt, alloc, catalog, opening, pool) {
+        Ok((shared, desk)) => Some(Locked { shared, desk }),
+        Err(_) => None,
+    }
 }
 
 /// Makes a step at the desk of its session.
@@ -101,16 +111,14 @@ fn answer<
     rt: &R,
     alloc: Global,
     step: Step,
-    one: &Shared<'_, Listing, A, V, P>,
-    first: &mut Desk<A>,
-    other: &Shared<'_, Listing, B, W, P>,
-    second: &mut Desk<B>,
+    one: &mut Locked<'_, A, V, P>,
+    other: &mut Locked<'_, B, W, P>,
 ) -> Option<Result<Accepted, Refusal>> {
     let (session, command) = command_of(alloc, step)?;
     if session == 0 {
-        Some(first.command(rt, one, command))
+        Some(one.desk.command(rt, &one.shared, command))
     } else {
-        Some(second.command(rt, other, command))
+        Some(other.desk.command(rt, &other.shared, command))
     }
 }
 
@@ -161,26 +169,24 @@ fn do_task<
     rt: &R,
     alloc: Global,
     task: Task<'_>,
-    one: &Shared<'_, Listing, A, V, P>,
-    first: &mut Desk<A>,
-    other: &Shared<'_, Listing, B, W, P>,
-    second: &mut Desk<B>,
+    one: &mut Locked<'_, A, V, P>,
+    other: &mut Locked<'_, B, W, P>,
 ) -> Option<Seen> {
     let mut answers = Vec::new(alloc);
     let mut odd = 0u64;
     match task {
         Task::InTurn(steps) => {
             for &step in steps {
-                let outcome = match answer(rt, alloc, step, one, first, other, second)? {
-                    Err(Refusal::NoMemory) => {
-                        answer(rt, alloc, step, one, first, other, second)?
-                    }
+                let outcome = match answer(rt, alloc, step, one, other)? {
+                    Err(Refusal::NoMemory) => answer(rt, alloc, step, one, other)?,
                     outcome => outcome,
                 };
                 answers.push(outcome).ok()?;
             }
         }
         Task::AtOnce(times) => {
+            let (one, first) = (&one.shared, &mut one.desk);
+            let (other, second) = (&other.shared, &mut other.desk);
             let (here, there) = join(
                 rt,
                 || odd_answers(rt, alloc, times, one, first),
@@ -196,9 +202,9 @@ fn do_task<
 fn end_of<N: Naming, W: Board<Cell<N>> + Drop, P: Pooling, R: Wait>(
     rt: &R,
     alloc: Global,
-    shared: Shared<'_, Listing, N, W, P>,
-    desk: Desk<N>,
+    locked: Locked<'_, N, W, P>,
 ) -> Option<Left<P>> {
+    let Locked { shared, desk } = locked;
     let totals = shared.gather(rt, desk, Vec::new(alloc)).ok()?;
     let Totals {
         session,
@@ -228,16 +234,14 @@ fn seen_and_left<
     rt: &R,
     alloc: Global,
     task: Task<'_>,
-    one: (Shared<'_, Listing, A, V, P>, Desk<A>),
-    other: (Shared<'_, Listing, B, W, P>, Desk<B>),
+    one: Locked<'_, A, V, P>,
+    other: Locked<'_, B, W, P>,
 ) -> Option<(Seen, Left<P>, Left<P>)> {
-    let (one, first) = one;
-    let (other, second) = other;
-    let mut first = first;
-    let mut second = second;
-    let seen = do_task(rt, alloc, task, &one, &mut first, &other, &mut second)?;
-    let here = end_of(rt, alloc, one, first)?;
-    let there = end_of(rt, alloc, other, second)?;
+    let mut one = one;
+    let mut other = other;
+    let seen = do_task(rt, alloc, task, &mut one, &mut other)?;
+    let here = end_of(rt, alloc, one)?;
+    let there = end_of(rt, alloc, other)?;
     Some((seen, here, there))
 }
 
@@ -253,17 +257,16 @@ fn second_named<
     alloc: Global,
     task: Task<'_>,
     pool: &Pool<P>,
-    one: (Shared<'_, Listing, A, V, P>, Desk<A>),
+    one: Locked<'_, A, V, P>,
     side: Side,
-    blanks: Blanks,
 ) -> Option<(Seen, Left<P>, Left<P>)>
     requires named { GoesBy B.ledger B.setting B.first B.book B.root
-        side.session.session side.opened blanks }
+        side.opening.session.session side.opening.opened side.opening.blanks }
     requires there { P.is_there ≡ true }
-    requires fresh { side.session.session.journal ≡ [] }
-    requires offers { arc_value side.catalog ≡ side.session.session.setting.catalog }
+    requires fresh { side.opening.session.session.journal ≡ [] }
+    requires offers { arc_value side.catalog ≡ side.opening.session.session.setting.catalog }
 {
-    let other = behind_lock::<B, P, _>(rt, alloc, pool, side, blanks)?;
+    let other = behind_lock::<B, P, _>(rt, alloc, pool, side)?;
     seen_and_left(rt, alloc, task, one, other)
 }
 
@@ -274,17 +277,16 @@ fn first_named<A: Naming + Send + Sync, P: Pooling + Send + Sync, R: Threads + W
     task: Task<'_>,
     pool: &Pool<P>,
     side: Side,
-    blanks: Blanks,
 ) -> Option<(Seen, Left<P>, Left<P>)>
     requires named { GoesBy A.ledger A.setting A.first A.book A.root
-        side.session.session side.opened blanks }
+        side.opening.session.session side.opening.opened side.opening.blanks }
     requires there { P.is_there ≡ true }
-    requires fresh { side.session.session.journal ≡ [] }
-    requires offers { arc_value side.catalog ≡ side.session.session.setting.catalog }
+    requires fresh { side.opening.session.session.journal ≡ [] }
+    requires offers { arc_value side.catalog ≡ side.opening.session.session.setting.catalog }
 {
-    let one = behind_lock::<A, P, _>(rt, alloc, pool, side, blanks)?;
+    let one = behind_lock::<A, P, _>(rt, alloc, pool, side)?;
     let side = new_side(alloc)?;
-    second_named::<A, Brand, _, P, R>(rt, alloc, task, pool, one, side, Blanks::new())
+    second_named::<A, Brand, _, P, R>(rt, alloc, task, pool, one, side)
 }
 
 /// What two desks on a pool of this name are answered, and what sessions and pool have at the end.
@@ -301,14 +303,7 @@ fn pool_named<P: Pooling + Send + Sync, R: Threads + Wait + Sync>(
 {
     let pool = Pool::<P>::new(capacity, blanks).ok()?;
     let side = new_side(alloc)?;
-    let (seen, here, there) = first_named::<Brand, P, R>(
-        rt,
-        alloc,
-        task,
-        &pool,
-        side,
-        Blanks::new(),
-    )?;
+    let (seen, here, there) = first_named::<Brand, P, R>(rt, alloc, task, &pool, side)?;
     let generations = (here.generation, there.generation);
     let mut shares = Vec::with_capacity(alloc, 2).ok()?;
     shares.push(here.rates).ok()?;

@@ -7,7 +7,7 @@ use Rattle.pcef_lock.proofs.opening.State+N+Writer+N+R+P.open_within.Goals as go
 
 pub new-requires-clause-published : goal.new-requires-clause-published
 new-requires-clause-published g c =
-    subst (λ (ts : List TableValue). ArePublished g.N.Naming.setting c.args.session.session.journal g.N.Naming.first ts) (sym c.in-Ok.ensures.list)
-    (subst (λ (q : Setting). ArePublished q c.args.session.session.journal g.N.Naming.first (c.args.opened.table ∷ [])) c.requires.named.setting_is
-    (subst (λ n. ArePublished c.args.session.session.setting c.args.session.session.journal n (c.args.opened.table ∷ [])) (sym c.requires.named.first_is)
-    (published_first c.args.session.session.setting c.args.session.session.journal c.args.opened.table c.requires.named.table)))
+    subst (λ (ts : List TableValue). ArePublished g.N.Naming.setting c.args.opening.session.session.journal g.N.Naming.first ts) (sym c.in-Ok.ensures.list)
+    (subst (λ (q : Setting). ArePublished q c.args.opening.session.session.journal g.N.Naming.first (c.args.opening.opened.table ∷ [])) c.requires.named.setting_is
+    (subst (λ n. ArePublished c.args.opening.session.session.setting c.args.opening.session.session.journal n (c.args.opening.opened.table ∷ [])) (sym c.requires.named.first_is)
+    (published_first c.args.opening.session.session.setting c.args.opening.session.session.journal c.args.opening.opened.table c.requires.named.table)))

@@ -13,7 +13,7 @@ invariant_of-state g c =
     let issued : c.add_commands.new.self.issued ≡ 1 =
     omega (arith, ap (λ (b : Account). b.issued) c.add_commands.ensures.books, ap (λ (b : Account). b.issued) c.issue-shares.ensures.books, ap (λ (b : Account). b.issued) c.new-books.ensures) in
     let books = account_is c.add_commands.new.self (plus zeros command_ledger (length (commands c.args.session.session.journal))) 1 totals issued in (
-      rw books (sound_new g.N.Naming.setting g.N.Naming.first c.args.session.session c.args.publisher c.args.places (length c.args.subscribers.items) c.requires.setting c.commands_of-commands.ensures.lawful c.requires.fresh
+      rw books (sound_new g.N.Naming.setting g.N.Naming.first c.args.session.session c.args.publishing.publisher c.args.places (length c.args.publishing.subscribers.items) c.requires.setting c.commands_of-commands.ensures.lawful c.requires.fresh
           c.requires.published c.commands_of-commands.ensures.few_rows c.requires.places c.requires.subscribers),
       c.requires.rates,
     )
