@@ -18,5 +18,5 @@ returns c =
     let none = subst (λ (m : SessionModel). activated m.setting command ≡ None) (sym c.self.view_is) c.requires.none in
     let shows = table_left v command (held_sound c.self.inside c.self.invariant) none c.requires.table c.requires.switched c.in_ok-table.table
     (rw (c.table.ensures ∙ c.deref.ensures) at c.in_ok-table.ensures.number) (rw (c.table.ensures ∙ c.deref.ensures) at c.in_ok-table.ensures.entries) (rw (c.table.ensures ∙ c.deref.ensures) at c.in_ok-table.ensures.session) in
-    subst (λ (m : SessionModel). IfOk c.new.result (λ t. ShowsNext m.setting m.journal command t)) c.self.view_is
-    (if_ok_is (λ t. ShowsNext v.setting v.journal command t) c.in_ok-table.table c.new.result shows c.new.ensures)
+    subst (λ (m : SessionModel). IfOk c.after.result (λ t. ShowsNext m.setting m.journal command t)) c.self.view_is
+    (if_ok_is (λ t. ShowsNext v.setting v.journal command t) c.in_ok-table.table c.after.result shows c.after.ensures)

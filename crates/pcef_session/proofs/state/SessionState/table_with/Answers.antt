@@ -52,5 +52,5 @@ returns c =
     let shows = table_with v command b.rule x c.in_ok-entry.entry (held_sound c.self.inside c.self.invariant) (activation_accepted v.setting v.journal command b.rule accepted changing b.becomes) (makes_active v.setting command b.rule b.becomes) b.becomes b.is_of made
     c.in_ok-table.table
     (rw (c.table.ensures ∙ c.deref.ensures) at c.in_ok-table.ensures.number) (rw (c.table.ensures ∙ c.deref.ensures) at c.in_ok-table.ensures.entries) (rw (c.table.ensures ∙ c.deref.ensures) at c.in_ok-table.ensures.session) in
-    subst (λ (m : SessionModel). IfOk c.new.result (λ t. ShowsNext m.setting m.journal command t)) c.self.view_is
-    (if_ok_is (λ t. ShowsNext v.setting v.journal command t) c.in_ok-table.table c.new.result shows c.new.ensures)
+    subst (λ (m : SessionModel). IfOk c.after.result (λ t. ShowsNext m.setting m.journal command t)) c.self.view_is
+    (if_ok_is (λ t. ShowsNext v.setting v.journal command t) c.in_ok-table.table c.after.result shows c.after.ensures)
