@@ -1,23 +1,55 @@
 //! Indexes of tables that come one after the other: each takes over what it can of the one before.
 
+ghost use Rattle.std.specs.Prelude.{IfSome};
+ghost use Rattle.pcef_table.specs.Tables.{IsTable};
+
 use crate::tests::expect_equal;
 use crate::tests::tables::{
     ALL, DNS, DNS_ANSWER, UE, empty_catalog, padded, passed, table_of, with_variant, without_rule,
 };
+use pcef_catalog::Offers;
 use pcef_index::Indexed;
 use pcef_model::Verdict;
 use pcef_rule::Gate;
 use std::alloc::Global;
 
-/// What a table with many filters decides of a packet, then one with a rule more, and one without that rule.
+/// A table with many filters, none of which but one matches a packet of the tests.
+fn many<C: Offers>(alloc: Global, catalog: &C) -> Option<Indexed>
+    ensures { IfSome result (λ i. IsTable (C.offers catalog.now) i.entries) }
+{
+    let few = table_of(alloc, catalog, &[("a", 10, Gate::Enabled, 5, ALL)])?;
+    Indexed::new(alloc, padded(alloc, catalog, &few)?, catalog).ok()
+}
+
+/// The next table, with a rule more that goes before.
+fn with_dns<C: Offers>(alloc: Global, catalog: &C, before: &Indexed) -> Option<Indexed>
+    requires { IsTable (C.offers catalog.now) before.now.entries }
+    ensures { IfSome result (λ i. IsTable (C.offers catalog.now) i.entries) }
+{
+    let more = with_variant(
+        alloc,
+        catalog,
+        before.table(),
+        ("b", 5, Gate::Enabled, 6, DNS),
+    )?;
+    before.after(alloc, more).ok()
+}
+
+/// The next table, without that rule.
+fn without_dns<C: Offers>(alloc: Global, catalog: &C, before: &Indexed) -> Option<Indexed>
+    requires { IsTable (C.offers catalog.now) before.now.entries }
+    ensures { IfSome result (λ i. IsTable (C.offers catalog.now) i.entries) }
+{
+    let less = without_rule(catalog, before.table(), "b")?;
+    before.after(alloc, less).ok()
+}
+
+/// What each of these three tables decides of a packet.
 fn verdicts(alloc: Global) -> Option<[Verdict; 3]> {
     let catalog = empty_catalog(alloc)?;
-    let few = table_of(alloc, &catalog, &[("a", 10, Gate::Enabled, 5, ALL)])?;
-    let first = Indexed::new(alloc, padded(alloc, &catalog, &few)?, &catalog).ok()?;
-    let more = with_variant(alloc, &catalog, first.table(), ("b", 5, Gate::Enabled, 6, DNS))?;
-    let second = first.after(alloc, more).ok()?;
-    let less = without_rule(&catalog, second.table(), "b")?;
-    let third = second.after(alloc, less).ok()?;
+    let first = many(alloc, &catalog)?;
+    let second = with_dns(alloc, &catalog, &first)?;
+    let third = without_dns(alloc, &catalog, &second)?;
     Some([
         first.classify(&catalog, UE, &DNS_ANSWER),
         second.classify(&catalog, UE, &DNS_ANSWER),
