@@ -1,6 +1,7 @@
 pub mod AskedTexts
 pub mod Asks
 pub mod Cutting
+pub mod EmptyReads
 pub mod Fields
 pub mod FrameFronts
 pub mod FrameLines
@@ -10,7 +11,6 @@ pub mod FrameRuns
 pub mod Kept
 pub mod NameTests
 pub mod ReadLines
-pub mod Reads
 pub mod Saids
 pub mod Scripts
 pub mod Servings

@@ -6,7 +6,7 @@ use Rattle.pcef_script.specs.ScriptAnswers.{answered}
 use Rattle.pcef_script.specs.Scripts.{all_lines, ended_lines}
 use Rattle.pcef_sessions.specs.Standing.{fixed}
 use Rattle.pcef_sessions.proofs.Servings.{at_first, end_fails, opened_end, opened_stopped, stopped_in, wrote}
-use Rattle.pcef_sessions.proofs.Reads.{read_none}
+use Rattle.pcef_sessions.proofs.EmptyReads.{read_none}
 use Rattle.pcef_sessions.proofs.run.serve_all.Goals as goal
 
 pub loop-init : goal.loop-init

@@ -7,7 +7,7 @@ use Rattle.pcef_sessions.specs.Frames.{meaning}
 use Rattle.pcef_sessions.specs.Standing.{fixed}
 use Rattle.pcef_sessions.proofs.FrameRuns.{block_stops, end_stops, ends_with, goes_on, is_over, opened_block, opened_end}
 use Rattle.pcef_sessions.proofs.Wovens.{none_woven, wrote_woven}
-use Rattle.pcef_sessions.proofs.Reads.{read_none}
+use Rattle.pcef_sessions.proofs.EmptyReads.{read_none}
 use Rattle.pcef_sessions.proofs.run.serve_all_frames.Goals as goal
 
 pub loop-init : goal.loop-init
