@@ -66,7 +66,7 @@ abbrev pub with_version : App → App
 with_version a = record a { top = record a.top { has_version = true } }
 
 abbrev pub line_to_ue : App
-line_to_ue = with_rule (with_version (new_app (codes "pcef_capture"))) ue_rule
+line_to_ue = with_rule (with_version (new_app (codes "pcef capture"))) ue_rule
 
 abbrev pub line_to_sessions : App
 line_to_sessions = with_rule line_to_ue sessions_rule

@@ -181,7 +181,7 @@ fn file<'a>(alloc: Global) -> Arg<'a>
 fn with_ue<'a>(alloc: Global) -> Result<Command<'a>, AllocError>
     ensures { IfOk result (λ more. app_of more ≡ line_to_ue) }
 {
-    Command::new(alloc, "pcef_capture")
+    Command::new(alloc, "pcef capture")
         .version("0.1")
         .about("Writes the packets of a capture as lines of a script of pcef, or of pcef many")
         .arg(ue(alloc))
