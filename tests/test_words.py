@@ -77,7 +77,7 @@ class Words(ProgramTest):
         for program in OTHERS:
             for word in "--version", "-V":
                 with self.subTest(program=program, word=word):
-                    self.ends(program, [word], wrote=f"{name_of(program)} 0.1\n")
+                    self.ends(program, [word], wrote=f"{name_of(program)} 1.0.0\n")
 
     def test_each_word_has_help_of_its_own(self):
         for program in OTHERS:
@@ -114,7 +114,7 @@ class Words(ProgramTest):
     def test_the_version(self):
         for words in ["--version"], ["-V"], ["--version", "profile.toml"], ["--version", "--help"]:
             with self.subTest(words=words):
-                self.ends(PCEF, words, "x", wrote="pcef 0.1\n")
+                self.ends(PCEF, words, "x", wrote="pcef 1.0.0\n")
 
     def test_words_that_look_like_help_and_ask_for_none(self):
         for words in ["scripts", "--help"], ["--helped"], ["-H"], ["run", "a", "--help"], ["pool", "1", "--help"]:

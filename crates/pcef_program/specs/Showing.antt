@@ -30,4 +30,4 @@ shown_by (word ∷ words) =
 -- its first line
 abbrev pub shown_line : Shown → List ℕ
 shown_line shown.Help = end_text end.Usage
-shown_line shown.Version = codes "pcef 0.1\n"
+shown_line shown.Version = codes "pcef 1.0.0\n"

@@ -6,6 +6,7 @@ ghost use Rattle.pcef_program.specs.Ends.{end_text};
 ghost use Rattle.pcef_program.specs.Showing.{is_command_word, is_help_word, is_version_word, shown_by, shown_line};
 
 use crate::end::{USAGE, USAGE_NOTE};
+use pcef_output::VERSION_LINE;
 
 /// A text that the program shows of itself.
 #[derive(Clone, Copy, Debug, PartialEq, Eq)]
@@ -56,7 +57,7 @@ impl Shown {
     {
         match self {
             Shown::Help => USAGE,
-            Shown::Version => "pcef 0.1\n",
+            Shown::Version => VERSION_LINE,
         }
     }
 

@@ -2,6 +2,7 @@
 
 use crate::asked::CHECK;
 use clap::{Arg, ArgAction, Command, Error};
+use pcef_output::VERSION;
 use std::alloc::Global;
 
 /// The options of the program.
@@ -31,7 +32,7 @@ pub(crate) fn parse_options<'a>(
             "The lines of a script, or - for standard input; without it only the profile is checked",
         );
     let command = Command::new(alloc, CHECK)
-        .version("0.1")
+        .version(VERSION)
         .about(
             "Reports each line of a script of pcef that is answered by a fault or a refusal, and why",
         )

@@ -2,6 +2,7 @@
 
 use crate::asked::GX;
 use clap::{Arg, ArgAction, ArgMatches, Command, Error, value_parser};
+use pcef_output::VERSION;
 use std::alloc::{AllocError, Global};
 
 /// Which sessions there are.
@@ -131,7 +132,7 @@ fn with_profile<'a>(alloc: Global, command: Command<'a>) -> Result<Command<'a>, 
 
 /// The command line.
 fn command<'a>(alloc: Global) -> Result<Command<'a>, AllocError> {
-    let command = Command::new(alloc, GX).version("0.1").about(
+    let command = Command::new(alloc, GX).version(VERSION).about(
         "Speaks of a session with its PCRF: reads Diameter on standard input, and writes it on standard output",
     );
     let command = with_sessions(alloc, command)?;

@@ -3,6 +3,7 @@
 use crate::asked::MANY;
 use crate::many::keeping::Keeping;
 use clap::{Arg, ArgAction, ArgMatches, Command, Error, value_parser};
+use pcef_output::VERSION;
 use std::alloc::{AllocError, Global};
 
 /// What the program is asked for.
@@ -67,7 +68,7 @@ fn profile_argument<'a>(alloc: Global) -> Arg<'a> {
 /// The command line.
 fn command<'a>(alloc: Global) -> Result<Command<'a>, AllocError> {
     Command::new(alloc, MANY)
-        .version("0.1")
+        .version(VERSION)
         .about(
             "Answers lines of many sessions, each behind its session's name: opens one by {\"do\":\"open\"}, renews it by {\"do\":\"renew\"} and ends it by {\"do\":\"end\"}",
         )

@@ -2,6 +2,7 @@
 
 use crate::asked::PAGE;
 use clap::{Arg, ArgAction, ArgMatches, Command, Error};
+use pcef_output::VERSION;
 use pcef_page::Sources;
 use std::alloc::{AllocError, Global};
 
@@ -91,7 +92,7 @@ fn answers_argument<'a>(alloc: Global) -> Arg<'a> {
 /// The command line.
 fn command<'a>(alloc: Global) -> Result<Command<'a>, AllocError> {
     Command::new(alloc, PAGE)
-        .version("0.1")
+        .version(VERSION)
         .about("Shows what a script of pcef and its answers say of a session")
         .arg(format_argument(alloc))?
         .arg(times_argument(alloc))?
