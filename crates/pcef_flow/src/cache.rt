@@ -2,9 +2,7 @@
 
 ghost use Rattle.std.specs.Prelude.{◌≡◌, Contains, IfOk, IfSome, List, Some, true};
 ghost use Rattle.pcef_packet.specs.declared.header.Addr.{Addr};
-ghost use Rattle.pcef_table.specs.SessionSlots.{slots_counted};
 ghost use Rattle.pcef_table.specs.Tables.{IsTable};
-ghost use Rattle.pcef_table.specs.Verdicts.{IsPlaced, IsVerdict};
 ghost use Rattle.pcef_table.specs.declared.entry.TableEntry.{TableEntry};
 ghost use Rattle.pcef_catalog.specs.declared.listing.Offer.{Offer};
 ghost use Rattle.pcef_index.specs.Places.{IsFirstPlace};
@@ -12,9 +10,9 @@ ghost use Rattle.pcef_flow.specs.Flows.{Remembers, all_ignore_volume, flow_of, i
 
 use crate::flow::{Flow, spread};
 use pcef_catalog::{Detects, Offers};
-use pcef_index::{Decision, Indexed};
+use pcef_index::Indexed;
 use pcef_packet::{Addr, Header};
-use pcef_table::{Source, Table, TableEntry, is_own};
+use pcef_table::{Source, Table, TableEntry};
 use std::alloc::{AllocError, Global};
 use std::marker::Model;
 
@@ -95,30 +93,6 @@ impl FlowCache {
     {
         self.flows.fill(None);
         self.is_used = all_ignore_volume(catalog, table.entries());
-    }
-
-    /// What the table that is followed decides of a packet, for a session with this address, as [`Indexed::judged`] does:
-    /// by the place of its flow, where the cache is used and has it, else by a look-up, which it then remembers. Takes no
-    /// memory.
-    pub fn judged<C: Detects>(
-        &mut self,
-        followed: &Indexed,
-        catalog: &C,
-        ue: Addr,
-        header: &Header,
-    ) -> Decision
-        requires table { IsTable (C.offers catalog.now) followed.now.entries }
-        requires remembers { Remembers (C.offers catalog.now) followed.now.entries ue self.old }
-        ensures remembers { Remembers (C.offers catalog.now) followed.now.entries ue self.new }
-        ensures verdict { IsVerdict (C.offers catalog.now) followed.now.entries ue header.now result.verdict }
-        ensures place { IsPlaced (C.offers catalog.now) followed.now.entries result.verdict result.place }
-        ensures slots { result.slots.items ≡ slots_counted (C.offers catalog.now) followed.now result.verdict }
-    {
-        if !is_own(header, ue) {
-            return followed.judged(catalog, ue, header);
-        }
-        let place = self.first_place(followed, catalog, &ue, header);
-        followed.decided_at(catalog, place, header)
     }
 
     /// The place of the first entry of the table that is followed that fits a packet, as [`Indexed::first_place`] gives

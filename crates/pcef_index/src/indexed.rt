@@ -3,8 +3,6 @@
 ghost use Rattle.std.specs.Prelude.{◌≡◌, [], IfOk, IfSome, None, Some, find, map, slice_get, true};
 ghost use Rattle.std.specs.Arc.{arc_value};
 ghost use Rattle.std.specs.Option.{option_and_then, option_map};
-ghost use Rattle.pcef_packet.specs.Addresses.{is_assigned, ue_side};
-ghost use Rattle.pcef_packet.specs.declared.header.Addr.{Addr};
 ghost use Rattle.pcef_index.specs.Places.{IsFirstPlace};
 ghost use Rattle.pcef_table.specs.SessionSlots.{no_slots, slots_counted};
 ghost use Rattle.pcef_table.specs.Sources.{IsKnown, source_fits};
@@ -254,7 +252,7 @@ impl Indexed {
     }
 
     /// The place of the first entry that fits a packet, where one does: the number of entries before it, 0 to 63. Takes
-    /// no memory. [`Indexed::decided_at`] says what it decides, for callers that keep places.
+    /// no memory. [`Indexed::entry_at`] gives the entry, for callers that keep places.
     pub fn first_place<C: Detects>(&self, catalog: &C, ue: Addr, header: &Header) -> Option<u8>
         requires { IsTable (C.offers catalog.now) self.now.entries }
         ensures { IsFirstPlace (C.offers catalog.now) self.now.entries ue header.now result }
@@ -265,24 +263,9 @@ impl Indexed {
         }
     }
 
-    /// What the generation decides of a packet of the session, where the entry at this place is the first that fits, or
-    /// where none does. Takes no memory.
-    pub fn decided_at<C: Offers>(&self, catalog: &C, place: Option<u8>, header: &Header) -> Decision
-        requires { IsTable (C.offers catalog.now) self.now.entries }
-        ensures verdict { (ue : Addr) → is_assigned (ue_side header.now) ue ≡ true
-            → IsFirstPlace (C.offers catalog.now) self.now.entries ue header.now place
-            → IsVerdict (C.offers catalog.now) self.now.entries ue header.now result.verdict }
-        ensures place { IsPlaced (C.offers catalog.now) self.now.entries result.verdict result.place }
-        ensures slots { result.slots.items ≡ slots_counted (C.offers catalog.now) self.now result.verdict }
-    {
-        match self.entry_at(place) {
-            None => undecided(Verdict::Unmatched),
-            Some((place, entry)) => self.decided_by(catalog, place, entry, header),
-        }
-    }
-
-    /// The entry at a place, behind the place.
-    fn entry_at(&self, place: Option<u8>) -> Option<(u8, &TableEntry)>
+    /// The entry at a place, behind the place. Takes no memory.
+    #[inline(always)]
+    pub fn entry_at(&self, place: Option<u8>) -> Option<(u8, &TableEntry)>
         ensures entry { option_map (λ found. found.1.now) result
             ≡ option_and_then (λ n. slice_get self.now.entries n) place }
         ensures place { IfSome result (λ found. slice_get self.now.entries found.0 ≡ Some found.1.now) }

@@ -1,5 +1,5 @@
 -- Rows that are judged by the tables that were seen.
-use Rattle.std.specs.Prelude.{ℕ, ◌≡◌, ◌+◌, List, All, length}
+use Rattle.std.specs.Prelude.{ℕ, ◌≡◌, ◌+◌, List, [], ◌∷◌, ◌++◌, All, length}
 use Rattle.pcef_packet.specs.declared.header.Header.{Header}
 use Rattle.pcef_packet.specs.declared.header.Addr.{Addr}
 use Rattle.pcef_catalog.specs.declared.listing.Offer.{Offer}
@@ -28,6 +28,12 @@ pub record IsTaken (p : Setting) (first worker seq : ℕ) (seen : List TableValu
   pub header_is : i.row.header ≡ header
   pub worker_is : i.row.worker ≡ worker
   pub seq_is : i.row.seq ≡ seq
+
+-- the row of a packet, judged by the last table that was seen, waits behind the others
+pub record TakesRow (p : Setting) (first worker seq : ℕ) (seen : List TableValue) (header : Header) (old new : List Item) : Type 0 where
+  pub item : Item
+  pub taken : IsTaken p first worker seq seen header item
+  pub after : new ≡ old ++ item ∷ []
 
 -- a cache remembers flows of the table that was seen last
 abbrev pub FollowsLast : Setting → List TableValue → Flows → Type 0

@@ -1,17 +1,16 @@
 //! The seats of workers.
 
-ghost use Rattle.std.specs.Prelude.{◌≡◌, ◌+◌, length};
+ghost use Rattle.std.specs.Prelude.{◌≡◌, ◌<◌, ◌+◌, length};
 ghost use mathlib.Core.List.{IsPrefix};
-ghost use Rattle.pcef_lock.specs.Judging.{FollowsLast, IsTaken};
+ghost use Rattle.pcef_lock.specs.Judging.{FollowsLast, TakesRow};
 
 use pcef_catalog::{Detects, Offers};
 use pcef_flow::FlowCache;
-use pcef_index::Decision;
-use pcef_model::Row;
 use pcef_packet::{Addr, Header};
 use pcef_publish::Subscriber;
-use pcef_session::Item;
+use pcef_session::{Batch, RowId};
 use pcef_share::{Naming, Shares};
+use pcef_table::is_own;
 
 /// What a worker has of a session.
 #[derive(Drop)]
@@ -27,34 +26,36 @@ pub struct Seat<N: Naming> {
 }
 
 impl<N: Naming> Seat<N> {
-    /// Judges a packet by the table that is held, or by what a cache of its flows remembers: its row, with this number in
-    /// the lane. The catalog and the address are those of the session. Takes no lock, no memory, and doesn't wait.
+    /// Judges a packet by the table that is held, or by what a cache of its flows remembers; its row then waits, with
+    /// this number in the lane. The catalog and the address are those of the session. Takes no lock, no memory, and
+    /// doesn't wait.
     pub fn judge<C: Detects>(
         &self,
         catalog: &C,
         flows: &mut FlowCache,
         seq: u64,
         header: &Header,
-    ) -> Item
+        waiting: &mut Batch,
+    )
         requires offers { C.offers catalog.now ≡ N.setting.catalog }
         requires ue { self.now.ue ≡ N.setting.ue }
         requires follows { FollowsLast N.setting self.now.subscriber flows.old }
-        ensures taken { IsTaken N.setting N.first self.now.worker seq
-            self.now.subscriber header.now result }
+        requires room { length waiting.old < 32 }
+        ensures taken { TakesRow N.setting N.first self.now.worker seq
+            self.now.subscriber header.now waiting.old waiting.new }
         ensures follows { FollowsLast N.setting self.now.subscriber flows.new }
     {
         let (generation, held) = self.subscriber.current();
-        let Decision { verdict, slots, .. } = flows.judged(held, catalog, self.ue, header);
-        Item {
-            row: Row {
-                worker: self.worker,
-                seq,
-                generation,
-                header: *header,
-                verdict,
-            },
-            slots,
+        let id = RowId {
+            worker: self.worker,
+            seq,
+            generation,
+        };
+        if !is_own(header, self.ue) {
+            return waiting.push_stray(id, header);
         }
+        let place = flows.first_place(held, catalog, &self.ue, header);
+        let _ = waiting.push_decided(id, header, held, catalog, place);
     }
 
     /// Reads the published table once, with no lock, and returns the generation that is then held, which is never older

@@ -2,6 +2,7 @@ pub mod Acceptance
 pub mod Activations
 pub mod BearerLaws
 pub mod CommandAgrees
+pub mod Deciding
 pub mod EndedKeys
 pub mod EndsMet
 pub mod FirstSession

@@ -1,5 +1,6 @@
 pub mod Agreement
 pub mod Answers
+pub mod Deciding
 pub mod Following
 pub mod Laws
 pub mod Preparing

@@ -1,10 +1,17 @@
 //! The rows of a worker that wait.
 
 ghost use Rattle.std.specs.Prelude.{◌≡◌, ◌≤◌, ◌<◌, ◌++◌, ◌∷◌, [], ◌↔◌, IfOk, IsTrue, length};
+ghost use Rattle.pcef_table.specs.Tables.{IsTable};
+ghost use Rattle.pcef_model.specs.declared.verdict.Verdict.TheVariants.{Stray};
+ghost use Rattle.pcef_session.specs.Deciding.{Adds, AddsDecided};
 ghost use Rattle.pcef_session.specs.Following.{HasSmallRows};
 
+use crate::judging::{RowId, push_decided, push_stray};
 use arrayvec::ArrayVec;
+use pcef_catalog::Offers;
+use pcef_index::Indexed;
 use pcef_model::Row;
+use pcef_packet::Header;
 use pcef_rule::Slot;
 use std::alloc::{AllocError, Global};
 use std::marker::Model;
@@ -107,6 +114,33 @@ impl Batch {
         ensures most { length result.now ≤ 32 }
     {
         self.items.as_slice()
+    }
+
+    /// Adds the row of a packet that isn't the session's. Takes no memory.
+    #[inline(always)]
+    pub fn push_stray(&mut self, id: RowId, header: &Header)
+        requires { length self.old < 32 }
+        ensures { Adds id header.now Stray [] self.old self.new }
+    {
+        push_stray(&mut self.items, id, header);
+    }
+
+    /// Adds the row of a packet of the session, as a table decides, where the entry at this place is the first that fits,
+    /// or where none does. Returns the place of the rule that decided, where one did. Takes no memory.
+    #[inline(always)]
+    pub fn push_decided<C: Offers>(
+        &mut self,
+        id: RowId,
+        header: &Header,
+        held: &Indexed,
+        catalog: &C,
+        place: Option<u8>,
+    ) -> Option<u8>
+        requires room { length self.old < 32 }
+        requires table { IsTable (C.offers catalog.now) held.now.entries }
+        ensures { AddsDecided (C.offers catalog.now) held.now place id header.now result self.old self.new }
+    {
+        push_decided(&mut self.items, id, header, held, catalog, place)
     }
 
     /// Adds a row. Takes no memory.

@@ -1,6 +1,6 @@
 //! Rows that are taken over.
 
-ghost use Rattle.std.specs.Prelude.{◌≡◌, ◌≤◌, ◌<◌, ◌+◌, ◌^◌, ◌∷◌, get_or, length, map, IfOk};
+ghost use Rattle.std.specs.Prelude.{◌≡◌, ◌≤◌, ◌<◌, ◌+◌, ◌^◌, ◌++◌, ◌∷◌, [], get_or, length, map, vec_capacity, IfOk};
 ghost use Rattle.pcef_journal.specs.Lanes.{just_attached};
 ghost use Rattle.pcef_model.specs.Reports.{with_rows};
 ghost use Rattle.pcef_model.specs.Outcomes.{judged_of};
@@ -10,9 +10,39 @@ ghost use Rattle.pcef_usage.specs.Flushes.{rows_counted};
 
 use crate::batch::Item;
 use pcef_journal::Lanes;
-use pcef_model::Judged;
+use pcef_model::{Judged, Row, Verdict};
 use pcef_usage::CountedJournal;
 use std::alloc::{AllocError, Global};
+
+/// Adds the verdict of a row. Each variant is copied where it is added, or the copy would be copied again.
+fn note_row(judged: &mut Vec<Judged>, row: &Row)
+    requires { length judged.old.items < vec_capacity judged.old }
+    ensures judged { judged.new.items ≡ judged.old.items ++ judged_of row.now ∷ [] }
+    ensures capacity { vec_capacity judged.new ≡ vec_capacity judged.old }
+{
+    let generation = row.generation;
+    match &row.verdict {
+        Verdict::Stray => judged.push_reserved(Judged {
+            generation,
+            verdict: Verdict::Stray,
+        }),
+        Verdict::Unmatched => judged.push_reserved(Judged {
+            generation,
+            verdict: Verdict::Unmatched,
+        }),
+        Verdict::Gated { rule } => judged.push_reserved(Judged {
+            generation,
+            verdict: Verdict::Gated { rule: rule.copy() },
+        }),
+        Verdict::Passed { rule, bearer } => judged.push_reserved(Judged {
+            generation,
+            verdict: Verdict::Passed {
+                rule: rule.copy(),
+                bearer: *bearer,
+            },
+        }),
+    }
+}
 
 /// The verdicts of rows.
 pub(crate) fn note_rows(alloc: Global, items: &[Item]) -> Result<Vec<Judged>, AllocError>
@@ -20,10 +50,7 @@ pub(crate) fn note_rows(alloc: Global, items: &[Item]) -> Result<Vec<Judged>, Al
 {
     let mut judged = Vec::with_capacity(alloc, items.len())?;
     for item in items {
-        judged.push(Judged {
-            generation: item.row.generation,
-            verdict: item.row.verdict.copy(),
-        })?;
+        note_row(&mut judged, &item.row);
     }
     Ok(judged)
 }

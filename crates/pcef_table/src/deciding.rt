@@ -59,7 +59,7 @@ pub fn gate_verdict(properties: &Properties, bearer: BearerId, dir: Dir) -> Verd
 }
 
 /// The slot of an entry, where it is counted.
-fn counted_slot(entry: &TableEntry) -> Option<Slot>
+pub fn counted_slot(entry: &TableEntry) -> Option<Slot>
     ensures { result ≡ counted_slot entry.now }
 {
     if entry.counted { entry.slot } else { None }

@@ -13,6 +13,6 @@ mod session_slots;
 mod source;
 mod table;
 
-pub use deciding::{gate_verdict, is_own, judged_by};
+pub use deciding::{counted_slot, gate_verdict, is_own, judged_by};
 pub use entry::{Source, TableEntry};
 pub use table::{MAX_ENTRIES, Table};

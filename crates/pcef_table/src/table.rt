@@ -2,7 +2,7 @@
 
 ghost use Rattle.std.specs.Prelude.{◌≡◌, ◌≤◌, ◌<◌, ◌+◌, ◌^◌, [], IfOk, IfSome, find, length, map, set, slice_get};
 ghost use Rattle.std.specs.Option.{option_copied, option_map};
-ghost use Rattle.pcef_table.specs.SessionSlots.{no_slots, slots_beside, slots_counted, slots_up};
+ghost use Rattle.pcef_table.specs.SessionSlots.{no_slots, slots_beside, slots_counted, slots_up, with_flag_up};
 ghost use Rattle.pcef_table.specs.Sources.{IsKnown, source_fits};
 ghost use Rattle.pcef_table.specs.Tables.{IsTable, StaysTable, most_entries, placed, with_counting, without_entry, without_bearer, without_taken};
 ghost use Rattle.pcef_table.specs.Verdicts.{IsVerdict, slot_for};
@@ -300,13 +300,21 @@ impl Table {
         self.slots_beside(verdict, self.counts(catalog, verdict))
     }
 
+    /// The slots that a packet counts for which a rule with this counted slot let pass, in slot order. Takes no memory.
+    #[inline(always)]
+    pub fn slots_where_passed(&self, slot: Option<Slot>) -> ArrayVec<Slot, 8>
+        ensures { result.items ≡ slots_up (with_flag_up slot self.now.session) }
+    {
+        slots_with(slot, &self.session)
+    }
+
     /// The slots that a packet with this verdict counts for, in slot order. The given slot is that of the rule that let
     /// it pass. Takes no memory.
     pub fn slots_beside(&self, verdict: &Verdict, slot: Option<Slot>) -> ArrayVec<Slot, 8>
         ensures { result.items ≡ slots_beside slot self.now.session verdict.now }
     {
         match verdict {
-            Verdict::Passed { .. } => slots_with(slot, &self.session),
+            Verdict::Passed { .. } => self.slots_where_passed(slot),
             _ => ArrayVec::new(),
         }
     }

@@ -190,10 +190,13 @@ impl<C: Detects + Drop, N: Naming, G: Gate + Drop> Worker<C, N, G> {
             return Err(BatchFull);
         }
         let seq = self.rows.len() + self.waiting.len() as u64;
-        let item = self
-            .seat
-            .judge(&*self.catalog, &mut self.flows, seq, header);
-        self.waiting.push(item);
+        self.seat.judge(
+            &*self.catalog,
+            &mut self.flows,
+            seq,
+            header,
+            &mut self.waiting,
+        );
         Ok(())
     }
 

@@ -1,19 +1,23 @@
 //! A worker.
 
-ghost use Rattle.std.specs.Prelude.{◌≡◌, ◌≤◌, ◌<◌, ◌+◌, IfOk, Ok, OnErr, OnOk, length};
+ghost use Rattle.std.specs.Prelude.{◌≡◌, ◌≤◌, ◌<◌, ◌+◌, IfOk, List, Ok, OnErr, false, length, true};
+ghost use Rattle.pcef_packet.specs.Addresses.{is_assigned, ue_side};
+ghost use Rattle.pcef_packet.specs.declared.header.Addr.{Addr};
+ghost use Rattle.pcef_catalog.specs.declared.listing.Offer.{Offer};
 ghost use Rattle.pcef_table.specs.Tables.{IsTable};
-ghost use Rattle.pcef_table.specs.Verdicts.{IsPlaced};
+ghost use Rattle.pcef_index.specs.Places.{IsFirstPlace};
 ghost use Rattle.pcef_session.specs.Answers.{AnswersFinish, AnswersFlush, MayComeNext};
 ghost use Rattle.pcef_session.specs.Following.{HasItsSlots};
-ghost use Rattle.pcef_world.specs.Workers.{IsJudged, LacksForItem, PlacesLast, TakesItem, after_flushing, waiting_count, held_by, with_item};
+ghost use Rattle.pcef_world.specs.Workers.{LacksForItem, PlacesLast, TakesItem, after_flushing, held_by, waiting_count};
 ghost use Rattle.pcef_flow.specs.Flows.{Remembers};
 
-use pcef_catalog::Detects;
+use pcef_catalog::{Detects, Offers};
 use pcef_flow::FlowCache;
-use pcef_index::{Decision, Indexed};
-use pcef_model::{FlushRefusal, Row, Verdicts};
+use pcef_index::Indexed;
+use pcef_model::{FlushRefusal, Verdicts};
 use pcef_packet::{Addr, Header};
-use pcef_session::{BatchFull, Item, MAX_WAITING, SessionState, WaitingRows};
+use pcef_session::{BatchFull, MAX_WAITING, RowId, SessionState, WaitingRows};
+use pcef_table::is_own;
 use std::alloc::AllocError;
 use std::sync::Arc;
 
@@ -39,96 +43,75 @@ pub struct Taken {
 }
 
 impl WorldWorker {
-    /// The row of a packet of which the table that the worker holds decides so, after `handed_over` rows that it has
-    /// handed over, and the place of the rule that decided.
-    fn row_of(&self, decision: Decision, handed_over: u64, header: &Header) -> (Item, Option<u8>)
+    /// Which row is its next one, after `handed_over` rows that it has handed over.
+    fn next(&self, handed_over: u64) -> RowId
         requires { handed_over ≤ 4294967295 }
-        ensures row { result.0.row ≡ record {
+        ensures { result ≡ record {
           worker = self.now.number;
           seq = handed_over + length self.now.waiting;
           generation = (held_by self.now).number;
-          header = header.now;
-          verdict = decision.verdict;
         } }
-        ensures slots { result.0.slots ≡ decision.slots }
-        ensures place { result.1 ≡ decision.place }
     {
-        let Decision {
-            verdict,
-            place,
-            slots,
-        } = decision;
-        let item = Item {
-            row: Row {
-                worker: self.number,
-                seq: handed_over + self.waiting.len() as u64,
-                generation: self.held.generation(),
-                header: *header,
-                verdict,
-            },
-            slots,
-        };
-        (item, place)
-    }
-
-    /// Judges a packet by the table that the worker holds, after `handed_over` rows that it has handed over: its row,
-    /// and the place of the rule that decided.
-    fn judge<C: Detects>(
-        &self,
-        catalog: &C,
-        ue: Addr,
-        handed_over: u64,
-        header: &Header,
-    ) -> (Item, Option<u8>)
-        requires table { IsTable (C.offers catalog.now) (held_by self.now).entries }
-        requires few { handed_over ≤ 4294967295 }
-        ensures judged { IsJudged (C.offers catalog.now) ue header.now handed_over self.now result.0 }
-        ensures place { IsPlaced (C.offers catalog.now) (held_by self.now).entries
-            result.0.row.verdict result.1 }
-    {
-        self.row_of(self.held.judged(catalog, ue, header), handed_over, header)
-    }
-
-    /// The same, by the flows that were judged before by this table, or by a look-up.
-    fn judge_by_flows<C: Detects>(
-        &self,
-        catalog: &C,
-        flows: &mut FlowCache,
-        ue: Addr,
-        handed_over: u64,
-        header: &Header,
-    ) -> (Item, Option<u8>)
-        requires table { IsTable (C.offers catalog.now) (held_by self.now).entries }
-        requires remembers { Remembers (C.offers catalog.now) (held_by self.now).entries ue flows.old }
-        requires few { handed_over ≤ 4294967295 }
-        ensures judged { IsJudged (C.offers catalog.now) ue header.now handed_over self.now result.0 }
-        ensures place { IsPlaced (C.offers catalog.now) (held_by self.now).entries
-            result.0.row.verdict result.1 }
-        ensures remembers { Remembers (C.offers catalog.now) (held_by self.now).entries ue flows.new }
-    {
-        let decision = flows.judged(&self.held, catalog, ue, header);
-        self.row_of(decision, handed_over, header)
-    }
-
-    /// Lets a row wait, and returns how many wait then, with this place. Without memory for it, nothing changes.
-    fn wait(
-        &mut self,
-        item: Item,
-        place: Option<u8>,
-    ) -> Result<Result<Taken, BatchFull>, AllocError>
-        requires { length self.old.waiting < 32 }
-        ensures waits { IfOk result (λ answer.
-            answer ≡ Ok (record { waiting = length self.old.waiting + 1; place = place })) }
-        ensures item { OnOk result (self.new ≡ with_item item self.old) }
-        ensures lacks { OnErr result (self.new ≡ self.old) }
-    {
-        match self.waiting.push(item) {
-            Ok(()) => Ok(Ok(Taken {
-                waiting: self.waiting.len() as u8,
-                place,
-            })),
-            Err(lack) => Err(lack),
+        RowId {
+            worker: self.number,
+            seq: handed_over + self.waiting.len() as u64,
+            generation: self.held.generation(),
         }
+    }
+
+    /// What came of the packet whose row waits last, and which the rule at this place decided.
+    fn taken(&self, place: Option<u8>) -> Taken
+        ensures waiting { result.waiting ≡ length self.now.waiting }
+        ensures place { result.place ≡ place }
+    {
+        Taken {
+            waiting: self.waiting.len() as u8,
+            place,
+        }
+    }
+
+    /// Lets the row of a packet wait that isn't the session's. Without memory for it, nothing changes.
+    #[inline(never)]
+    fn wait_stray(&mut self, handed_over: u64, header: &Header) -> Result<Taken, AllocError>
+        requires few { handed_over ≤ 4294967295 }
+        requires room { length self.old.waiting < 32 }
+        ensures taken { IfOk result (λ taken. (offers : List Offer) (ue : Addr)
+            → is_assigned (ue_side header.now) ue ≡ false
+            → TakesItem offers ue header.now handed_over self.old (Ok taken.waiting) self.new) }
+        ensures place { IfOk result (λ taken. (offers : List Offer) → PlacesLast offers self.new taken.place) }
+        ensures held { self.new.held ≡ self.old.held }
+        ensures lacks { OnErr result (LacksForItem self.old self.new) }
+    {
+        let id = self.next(handed_over);
+        self.waiting.push_stray(id, header)?;
+        Ok(self.taken(None))
+    }
+
+    /// Lets the row of a packet wait, as the entry at a place decides. Without memory for it, nothing changes.
+    #[inline(always)]
+    fn wait_decided<C: Offers>(
+        &mut self,
+        catalog: &C,
+        handed_over: u64,
+        header: &Header,
+        place: Option<u8>,
+    ) -> Result<Taken, AllocError>
+        requires table { IsTable (C.offers catalog.now) (held_by self.old).entries }
+        requires few { handed_over ≤ 4294967295 }
+        requires room { length self.old.waiting < 32 }
+        ensures taken { IfOk result (λ taken. (ue : Addr)
+            → is_assigned (ue_side header.now) ue ≡ true
+            → IsFirstPlace (C.offers catalog.now) (held_by self.old).entries ue header.now place
+            → TakesItem (C.offers catalog.now) ue header.now handed_over self.old (Ok taken.waiting) self.new) }
+        ensures place { IfOk result (λ taken. PlacesLast (C.offers catalog.now) self.new taken.place) }
+        ensures held { self.new.held ≡ self.old.held }
+        ensures lacks { OnErr result (LacksForItem self.old self.new) }
+    {
+        let id = self.next(handed_over);
+        let decided = self
+            .waiting
+            .push_decided(id, header, &self.held, catalog, place)?;
+        Ok(self.taken(decided))
     }
 
     /// Judges a packet, lets it wait, and returns how many wait then, with the place of the rule that decided. Without
@@ -151,8 +134,11 @@ impl WorldWorker {
         if self.waiting.len() >= MAX_WAITING {
             return Ok(Err(BatchFull));
         }
-        let (item, place) = self.judge(catalog, ue, handed_over, header);
-        self.wait(item, place)
+        if !is_own(header, ue) {
+            return Ok(Ok(self.wait_stray(handed_over, header)?));
+        }
+        let place = self.held.first_place(catalog, ue, header);
+        Ok(Ok(self.wait_decided(catalog, handed_over, header, place)?))
     }
 
     /// The same, by the flows that were judged before by this table, or by a look-up, which they then remember.
@@ -177,8 +163,11 @@ impl WorldWorker {
         if self.waiting.len() >= MAX_WAITING {
             return Ok(Err(BatchFull));
         }
-        let (item, place) = self.judge_by_flows(catalog, flows, ue, handed_over, header);
-        self.wait(item, place)
+        if !is_own(header, ue) {
+            return Ok(Ok(self.wait_stray(handed_over, header)?));
+        }
+        let place = flows.first_place(&self.held, catalog, &ue, header);
+        Ok(Ok(self.wait_decided(catalog, handed_over, header, place)?))
     }
 
     /// Hands the waiting rows over to the session. A refusal keeps them.

@@ -36,10 +36,13 @@ fn judge_one<C: Detects, N: Naming>(catalog: &C, alone: &mut Alone<N>, packet: &
     if waiting >= MAX_WAITING {
         return;
     }
-    let row = alone
-        .seat
-        .judge(catalog, &mut alone.flows, waiting as u64, packet);
-    alone.batch.push(row);
+    alone.seat.judge(
+        catalog,
+        &mut alone.flows,
+        waiting as u64,
+        packet,
+        &mut alone.batch,
+    );
 }
 
 /// Judges the packets of a batch; their rows then wait.

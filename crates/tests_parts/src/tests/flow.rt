@@ -163,8 +163,8 @@ fn asked<C: Detects>(
     requires remembers { Remembers (C.offers catalog.now) indexed.now.entries UE cache.old }
     ensures { Remembers (C.offers catalog.now) indexed.now.entries UE cache.new }
 {
-    let decision = cache.judged(indexed, catalog, UE, packet);
-    (decision.place, calls.load(Ordering::SeqCst))
+    let place = cache.first_place(indexed, catalog, &UE, packet);
+    (place, calls.load(Ordering::SeqCst))
 }
 
 /// The table of a catalog's first rule.
