@@ -165,8 +165,9 @@ impl Bearers {
         has_name(&self.bound, name)
     }
 
-    /// Why a rule of this name can't be bound with this pair and these rates, if it can't. A rule that is bound under
-    /// its name doesn't count.
+    /// Why a rule of this name can't be bound with this pair and these rates, if it can't: its QCI isn't known or wants
+    /// other rates, there is no further bearer, or its guaranteed rates go over the session's capacity together with
+    /// those of all other rules. A rule that is bound under its name doesn't count.
     pub fn refusal(&self, name: &RuleName, qos: Qos, rates: Option<Rates>) -> Option<Refusal>
         ensures { result ≡ first_refusal self.now name.now qos rates }
     {

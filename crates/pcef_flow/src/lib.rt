@@ -1,6 +1,6 @@
-//! The flows that a worker judged last: `FlowCache`. A packet of a flow that is remembered is judged without a look-up.
+//! The flows that a worker judged last: `FlowCache`. The rule of a flow that is remembered is found without a look-up.
 //!
-//! Its contracts say: the same verdict, place and slots as the table's, whatever is remembered; and that a cache isn't used
+//! Its contracts say: the place that the table's own look-up gives, whatever is remembered; and that a cache isn't used
 //! with rules that look at more than a flow.
 //!
 //! In the order of reading: `flow`, `cache`.

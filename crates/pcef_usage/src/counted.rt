@@ -148,7 +148,7 @@ impl CountedJournal {
     }
 
     /// At the end of an event, while usage reports are subscribed, appends the reports of the grants that
-    /// are reached, and takes those grants. Takes no memory.
+    /// are reached; these are used up then. Takes no memory.
     pub fn report_thresholds(&mut self, subscribed: bool)
         requires { length self.old.states ≤ self.old.room }
         ensures journal { self.new.journal
