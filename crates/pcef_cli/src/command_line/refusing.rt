@@ -7,6 +7,7 @@ ghost use Rattle.pcef_cli.specs.Statuses.{IsStatusDue};
 use crate::command_line::faults::print_write_fault;
 use clap::Error;
 use clap::error::ErrorKind;
+use pcef_output::VERSION;
 use std::io;
 
 /// Reports `want of memory` on standard error, and returns its exit status. A failing write changes nothing.
@@ -28,7 +29,7 @@ pub(crate) fn refuse_usage(rt: &HostRuntime, reason: &str) -> u8
 /// Prints an error of clap. The version is that of the program, behind its name and the word.
 fn print(rt: &HostRuntime, program: &str, error: &Error) -> io::Result<()> {
     match error.kind() {
-        ErrorKind::DisplayVersion => println!(rt; "{program} 0.1"),
+        ErrorKind::DisplayVersion => println!(rt; "{program} {VERSION}"),
         _ => error.print(rt),
     }
 }
