@@ -8,7 +8,7 @@ use Rattle.pcef_packet.specs.declared.header.Addr.{Addr}
 use Rattle.pcef_packet.specs.declared.header.Dir.{Dir}
 use Rattle.pcef_packet.specs.declared.header.Dir.TheVariants.{Up, Down}
 use Rattle.pcef_packet.specs.declared.header.Header.{Header}
-use Rattle.pcef_packet.specs.Addresses.{agrees_in, remote_side_in}
+use Rattle.pcef_packet.specs.Addresses.{agrees_in, is_assigned, remote_side_in, ue_side}
 use Rattle.pcef_filter.specs.declared.filter.Filter.{Filter}
 use Rattle.pcef_filter.specs.Matching.{AsWritten, Exchanged, NotApplied, Orientation, matches, orientation_of, oriented_fits, proto_fits}
 use Rattle.pcef_catalog.specs.declared.listing.Offer.{Offer}
@@ -76,6 +76,15 @@ found_alike offers ue h (e ∷ es) ignore =
     let parts = and_parts (ignores_volume offers e.source) (all_ignore_volume offers es) ignore in
     ap (λ b. if b then Some e else find (λ (f : TableEntry). source_fits offers ue h f.source) es) (source_alike offers ue h e.source parts.0)
     ∙ ap (λ o. if source_fits offers ue (flow_of h) e.source then Some e else o) (found_alike offers ue h es parts.1)
+
+side_alike : (d : Dir) (h : Header) → ue_side (record h { dir = d }) ≡ ue_side (record (flow_of h) { dir = d })
+side_alike Up h = refl
+side_alike Down h = refl
+
+-- packets of one flow are of the session, or none is
+pub own_alike : (ue : Addr) (h k : Header) → flow_of h ≡ flow_of k → is_assigned (ue_side k) ue ≡ true → is_assigned (ue_side h) ue ≡ true
+own_alike ue h k same own =
+    ap (λ a. is_assigned a ue) (side_alike h.dir h ∙ ap (λ (f : Header). ue_side f) same ∙ sym (side_alike k.dir k)) ∙ own
 
 -- the place that is first for one packet of a flow is so for each
 pub flow_decides : (offers : List Offer) (es : List TableEntry) (ue : Addr) (h k : Header) (place : Option ℕ) → all_ignore_volume offers es ≡ true

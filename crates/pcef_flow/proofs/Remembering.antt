@@ -8,12 +8,11 @@ use Rattle.pcef_packet.specs.declared.header.Addr.{Addr}
 use Rattle.pcef_packet.specs.declared.header.Header.{Header}
 use Rattle.pcef_catalog.specs.declared.listing.Offer.{Offer}
 use Rattle.pcef_table.specs.declared.entry.TableEntry.{TableEntry}
-use Rattle.pcef_index.specs.Places.{IsFirstPlace}
 use Rattle.pcef_index.proofs.Places.{got_is_there}
 use Rattle.pcef_flow.specs.declared.cache.Remembered.{Remembered}
-use Rattle.pcef_flow.specs.Flows.{IsRight, Note, all_ignore_volume, flow_of}
+use Rattle.pcef_flow.specs.Flows.{IsOwnPlace, IsRight, Note, all_ignore_volume, flow_of}
 use Rattle.pcef_flow.specs.private.Packed.{header_of, note_of}
-use Rattle.pcef_flow.proofs.Alike.{flow_decides}
+use Rattle.pcef_flow.proofs.Alike.{flow_decides, own_alike}
 
 -- no place has a note
 pub none_remembered : (offers : List Offer) (es : List TableEntry) (ue : Addr) (kept : List (Option Remembered)) (n : ℕ) → kept ≡ replicate n None
@@ -30,10 +29,10 @@ noted kept at r h there same =
 
 -- a place that was found is noted
 pub notes_one : (offers : List Offer) (es : List TableEntry) (ue : Addr) (kept : List (Option Remembered)) (at : ℕ) (r : Remembered) (h : Header) → all_ignore_volume offers es ≡ true
-    → header_of r.flow ≡ flow_of h → IsFirstPlace offers es ue h r.place
+    → header_of r.flow ≡ flow_of h → IsOwnPlace offers es ue h r.place
     → All (λ (place : Option Note). IfSome place (IsRight offers es ue)) (map note_of kept)
     → All (λ (place : Option Note). IfSome place (IsRight offers es ue)) (map note_of (set kept at (Some r)))
-notes_one offers es ue kept at r h ignore is first right =
+notes_one offers es ue kept at r h ignore is own right =
     let P : Option Note → Type 0 = λ place. IfSome place (IsRight offers es ue) in
     rw (map-set note_of kept at (Some r))
-    (All-set P (map note_of kept) at (note_of (Some r)) (λ k same. flow_decides offers es ue k h r.place ignore (same ∙ is) first) right)
+    (All-set P (map note_of kept) at (note_of (Some r)) (λ k same. (own_alike ue k h (same ∙ is) own.0, flow_decides offers es ue k h r.place ignore (same ∙ is) own.1)) right)

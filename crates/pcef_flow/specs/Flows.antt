@@ -4,6 +4,7 @@ use Rattle.std.specs.List.{list_all}
 use Rattle.std.specs.Option.{option_map_or}
 use Rattle.pcef_packet.specs.declared.header.Addr.{Addr}
 use Rattle.pcef_packet.specs.declared.header.Header.{Header}
+use Rattle.pcef_packet.specs.Addresses.{is_assigned, ue_side}
 use Rattle.pcef_catalog.specs.declared.listing.Offer.{Offer}
 use Rattle.pcef_catalog.specs.Shapes.{shape_ignores_volume}
 use Rattle.pcef_table.specs.declared.entry.Source.{Source}
@@ -28,9 +29,13 @@ pub record Note : Type 0 where
   pub flow : Header
   pub place : Option ℕ
 
+-- the packet is the session's, and this is the place of the first entry that fits it
+abbrev pub IsOwnPlace : List Offer → List TableEntry → Addr → Header → Option ℕ → Type 0
+IsOwnPlace offers entries ue h place = (is_assigned (ue_side h) ue ≡ true) × IsFirstPlace offers entries ue h place
+
 -- what is noted holds of each packet of the flow
 abbrev pub IsRight : List Offer → List TableEntry → Addr → Note → Type 0
-IsRight offers entries ue note = (h : Header) → flow_of h ≡ note.flow → IsFirstPlace offers entries ue h note.place
+IsRight offers entries ue note = (h : Header) → flow_of h ≡ note.flow → IsOwnPlace offers entries ue h note.place
 
 -- the places of a cache, some of which have a note, and whether it is used
 pub record Flows : Type 0 where

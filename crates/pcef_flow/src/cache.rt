@@ -1,20 +1,22 @@
 //! The cache of flows.
 
-ghost use Rattle.std.specs.Prelude.{◌≡◌, Contains, IfOk, IfSome, List, Some, true};
+ghost use Rattle.std.specs.Prelude.{◌≡◌, Contains, IfOk, IfSome, List, OnErr, Some, false, true};
+ghost use Rattle.pcef_packet.specs.Addresses.{is_assigned, ue_side};
 ghost use Rattle.pcef_packet.specs.declared.header.Addr.{Addr};
 ghost use Rattle.pcef_table.specs.Tables.{IsTable};
 ghost use Rattle.pcef_table.specs.declared.entry.TableEntry.{TableEntry};
 ghost use Rattle.pcef_catalog.specs.declared.listing.Offer.{Offer};
 ghost use Rattle.pcef_index.specs.Places.{IsFirstPlace};
-ghost use Rattle.pcef_flow.specs.Flows.{Remembers, all_ignore_volume, flow_of, ignores_volume};
+ghost use Rattle.pcef_flow.specs.Flows.{IsOwnPlace, Remembers, all_ignore_volume, flow_of, ignores_volume};
 
 use crate::flow::{Flow, spread};
 use pcef_catalog::{Detects, Offers};
 use pcef_index::Indexed;
 use pcef_packet::{Addr, Header};
-use pcef_table::{Source, Table, TableEntry};
+use pcef_table::{Source, Table, TableEntry, is_own};
 use std::alloc::{AllocError, Global};
 use std::marker::Model;
+use thiserror::Error;
 
 /// A flow, and the place of the rule that decides of its packets, where one does.
 #[derive(Clone, Copy)]
@@ -23,9 +25,15 @@ struct Remembered {
     place: Option<u8>,
 }
 
-/// The flows that were judged last by one table, each with the place of its rule, never with a verdict: gates, bearers
-/// and slots are looked up for each packet. It is used where no rule of the table looks at the volume of a packet, which
-/// differs within a flow. Each flow has one place in it, so that an opponent who chooses ports pays for look-ups alone.
+/// The packet is none of the session's: the address at its side isn't the user equipment's.
+#[derive(Clone, Copy, Debug, PartialEq, Eq, Error)]
+#[error("the packet is none of the session's")]
+pub struct NotOwn;
+
+/// The session's flows that were judged last by one table, each with the place of its rule, never with a verdict: gates,
+/// bearers and slots are looked up for each packet. It is used where no rule of the table looks at the volume of a
+/// packet, which differs within a flow. Each flow has one place in it, so that an opponent who chooses ports pays for
+/// look-ups alone.
 pub struct FlowCache {
     flows: Vec<Option<Remembered>>,
     is_used: bool,
@@ -95,32 +103,39 @@ impl FlowCache {
         self.is_used = all_ignore_volume(catalog, table.entries());
     }
 
-    /// The place of the first entry of the table that is followed that fits a packet, as [`Indexed::first_place`] gives
-    /// it: that of its flow, where the cache has it, else by a look-up, which it then remembers, where it is used. Takes
-    /// no memory.
+    /// The place of the first entry of the table that is followed that fits a packet of the session, as
+    /// [`Indexed::first_place`] gives it: that of its flow, where the cache has it, else by a look-up, which it then
+    /// remembers, where it is used. Takes no memory. Fails with [`NotOwn`] where the packet is none of the session's.
     #[inline(always)]
-    pub fn first_place<C: Detects>(
+    pub fn own_place<C: Detects>(
         &mut self,
         followed: &Indexed,
         catalog: &C,
         ue: &Addr,
         header: &Header,
-    ) -> Option<u8>
+    ) -> Result<Option<u8>, NotOwn>
         requires table { IsTable (C.offers catalog.now) followed.now.entries }
         requires remembers { Remembers (C.offers catalog.now) followed.now.entries ue.now self.old }
         ensures remembers { Remembers (C.offers catalog.now) followed.now.entries ue.now self.new }
-        ensures first { IsFirstPlace (C.offers catalog.now) followed.now.entries ue.now header.now result }
+        ensures own { IfOk result (λ place. IsOwnPlace (C.offers catalog.now) followed.now.entries
+            ue.now header.now place) }
+        ensures stray { OnErr result (is_assigned (ue_side header.now) ue.now ≡ false) }
     {
+        // The flow first: one that is remembered is the session's.
         let at = spread(header) & self.flows.len().wrapping_sub(1);
         if let Some(remembered) = self.remembered_at(at, header) {
-            return remembered;
+            return Ok(remembered);
+        }
+        if !is_own(header, *ue) {
+            return Err(NotOwn);
         }
         // A copy, so that the header itself need not lie in memory.
         let copy = *header;
-        self.looked_up(at, followed, catalog, ue, &copy)
+        Ok(self.looked_up(at, followed, catalog, ue, &copy))
     }
 
-    /// The place of the first entry that fits a packet, by a look-up, which is remembered where the cache is used.
+    /// The place of the first entry that fits a packet of the session, by a look-up, which is remembered where the cache
+    /// is used.
     #[inline(never)]
     fn looked_up<C: Detects>(
         &mut self,
@@ -131,6 +146,7 @@ impl FlowCache {
         header: &Header,
     ) -> Option<u8>
         requires table { IsTable (C.offers catalog.now) followed.now.entries }
+        requires own { is_assigned (ue_side header.now) ue.now ≡ true }
         requires remembers { Remembers (C.offers catalog.now) followed.now.entries ue.now self.old }
         ensures remembers { Remembers (C.offers catalog.now) followed.now.entries ue.now self.new }
         ensures first { IsFirstPlace (C.offers catalog.now) followed.now.entries ue.now header.now result }

@@ -10,7 +10,6 @@ use pcef_packet::{Addr, Header};
 use pcef_publish::Subscriber;
 use pcef_session::{Batch, RowId};
 use pcef_share::{Naming, Shares};
-use pcef_table::is_own;
 
 /// What a worker has of a session.
 #[derive(Drop)]
@@ -51,10 +50,9 @@ impl<N: Naming> Seat<N> {
             seq,
             generation,
         };
-        if !is_own(header, self.ue) {
+        let Ok(place) = flows.own_place(held, catalog, &self.ue, header) else {
             return waiting.push_stray(id, header);
-        }
-        let place = flows.first_place(held, catalog, &self.ue, header);
+        };
         let _ = waiting.push_decided(id, header, held, catalog, place);
     }
 

@@ -14,12 +14,12 @@ ghost use Rattle.pcef_world.specs.private.Followed.{Follows, FollowsNewest, deci
 use crate::world::WorldState;
 use arrayvec::ArrayVec;
 use pcef_catalog::{Detects, Offers};
-use pcef_flow::FlowCache;
+use pcef_flow::{FlowCache, NotOwn};
 use pcef_index::{Decision, Indexed};
 use pcef_model::Verdict;
 use pcef_packet::{Addr, Dir, Header};
 use pcef_rule::{BearerId, Slot};
-use pcef_table::{Table, TableEntry, is_own};
+use pcef_table::{Table, TableEntry};
 use std::alloc::{AllocError, Global};
 use std::sync::Arc;
 
@@ -236,11 +236,10 @@ impl JudgedFlows {
         ensures follows { Follows (C.offers catalog.now) ue.now (arc_value self.old.held) self.new }
         ensures brief { IsBriefOf (C.offers catalog.now) (arc_value self.old.held) ue.now header.now result }
     {
-        if !is_own(header, *ue) {
-            return self.undecided(Outcome::Stray);
+        match self.flows.own_place(&self.held, catalog, ue, header) {
+            Ok(place) => self.decided_at(place, header.dir),
+            Err(NotOwn) => self.undecided(Outcome::Stray),
         }
-        let place = self.flows.first_place(&self.held, catalog, ue, header);
-        self.decided_at(place, header.dir)
     }
 }
 

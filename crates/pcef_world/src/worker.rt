@@ -163,10 +163,9 @@ impl WorldWorker {
         if self.waiting.len() >= MAX_WAITING {
             return Ok(Err(BatchFull));
         }
-        if !is_own(header, ue) {
+        let Ok(place) = flows.own_place(&self.held, catalog, &ue, header) else {
             return Ok(Ok(self.wait_stray(handed_over, header)?));
-        }
-        let place = flows.first_place(&self.held, catalog, &ue, header);
+        };
         Ok(Ok(self.wait_decided(catalog, handed_over, header, place)?))
     }
 

@@ -9,9 +9,9 @@ use crate::tests::catalog::{named, one};
 use crate::tests::expect_equal;
 use crate::tests::tables::{DNS_ANSWER, UE, empty_table, with_entry};
 use pcef_catalog::{Catalog, Detect, Detects, Offers, Predefined, Test};
-use pcef_flow::FlowCache;
+use pcef_flow::{FlowCache, NotOwn};
 use pcef_index::Indexed;
-use pcef_packet::Header;
+use pcef_packet::{Addr, Header};
 use pcef_rule::{BearerId, RuleName};
 use pcef_table::{Source, Table, TableEntry};
 use std::alloc::Global;
@@ -32,20 +32,27 @@ const LONGER: Header = Header {
 
 const PLAIN: Header = DNS_ANSWER;
 
+const STRAY: Header = Header {
+    dst: Addr::V4(0xc633_6408),
+    ..VOICE
+};
+
 /// The place of the rule that decides of a packet, and how often its closure had been asked then.
-type Asked = (Option<u8>, u64);
+type Asked = (Result<Option<u8>, NotOwn>, u64);
 
 #[test]
 fn a_flow_is_looked_up_once(rt: HostRuntime) {
     let due = [
-        (Some(0), 1),
-        (Some(0), 1),
+        (Ok(Some(0)), 1),
+        (Ok(Some(0)), 1),
         // Each of two flows with one place drives the other out.
-        (None, 2),
-        (Some(0), 3),
-        (Some(0), 3),
+        (Ok(None), 2),
+        (Ok(Some(0)), 3),
+        // A stray packet, with that place, drives out none.
+        (Err(NotOwn), 3),
+        (Ok(Some(0)), 3),
         // The table is followed once more, so the flow is forgotten.
-        (Some(0), 4),
+        (Ok(Some(0)), 4),
     ];
     expect_equal(&rt, &asked_by_code_point(rt.alloc()), &Some(due));
 }
@@ -53,17 +60,18 @@ fn a_flow_is_looked_up_once(rt: HostRuntime) {
 #[test]
 fn no_flow_is_remembered_where_a_rule_looks_at_the_volume(rt: HostRuntime) {
     let due = [
-        (Some(0), 1),
-        (None, 2),
-        (Some(0), 3),
-        (Some(0), 4),
-        (None, 5),
-        (Some(0), 6),
+        (Ok(Some(0)), 1),
+        (Ok(None), 2),
+        (Ok(Some(0)), 3),
+        (Ok(Some(0)), 4),
+        (Err(NotOwn), 4),
+        (Ok(None), 5),
+        (Ok(Some(0)), 6),
     ];
     expect_equal(&rt, &asked_by_volume(rt.alloc()), &Some(due));
 }
 
-fn asked_by_code_point(alloc: Global) -> Option<[Asked; 6]> {
+fn asked_by_code_point(alloc: Global) -> Option<[Asked; 7]> {
     let calls = Arc::new(alloc, AtomicU64::new(0)).ok()?;
     let theirs = Arc::try_clone(&calls).ok()?;
     let detect: Detect = Box::new(
@@ -81,11 +89,11 @@ fn asked_by_code_point(alloc: Global) -> Option<[Asked; 6]> {
         alloc,
         rule,
         &calls,
-        [&VOICE, &LONGER, &PLAIN, &VOICE, &LONGER, &VOICE],
+        [&VOICE, &LONGER, &PLAIN, &VOICE, &STRAY, &LONGER, &VOICE],
     )
 }
 
-fn asked_by_volume(alloc: Global) -> Option<[Asked; 6]> {
+fn asked_by_volume(alloc: Global) -> Option<[Asked; 7]> {
     let calls = Arc::new(alloc, AtomicU64::new(0)).ok()?;
     let theirs = Arc::try_clone(&calls).ok()?;
     let detect: Detect = Box::new(
@@ -107,7 +115,7 @@ fn asked_by_volume(alloc: Global) -> Option<[Asked; 6]> {
         alloc,
         rule,
         &calls,
-        [&VOICE, &LONGER, &VOICE, &VOICE, &LONGER, &VOICE],
+        [&VOICE, &LONGER, &VOICE, &VOICE, &STRAY, &LONGER, &VOICE],
     )
 }
 
@@ -116,8 +124,8 @@ fn asked_of(
     alloc: Global,
     rule: Predefined,
     calls: &AtomicU64,
-    packets: [&Header; 6],
-) -> Option<[Asked; 6]> {
+    packets: [&Header; 7],
+) -> Option<[Asked; 7]> {
     let mut rules = Vec::new(alloc);
     rules.push(rule).ok()?;
     let catalog = Catalog::new(alloc, rules).ok()?;
@@ -133,18 +141,19 @@ fn asked_by<C: Detects>(
     indexed: &Indexed,
     catalog: &C,
     calls: &AtomicU64,
-    packets: [&Header; 6],
-) -> Option<[Asked; 6]>
+    packets: [&Header; 7],
+) -> Option<[Asked; 7]>
     requires table { IsTable (C.offers catalog.now) indexed.now.entries }
     requires remembers { Remembers (C.offers catalog.now) indexed.now.entries UE cache.old }
 {
-    let [first, second, third, fourth, fifth, last] = packets;
+    let [first, second, third, fourth, fifth, sixth, last] = packets;
     Some([
         asked(cache, indexed, catalog, calls, first),
         asked(cache, indexed, catalog, calls, second),
         asked(cache, indexed, catalog, calls, third),
         asked(cache, indexed, catalog, calls, fourth),
         asked(cache, indexed, catalog, calls, fifth),
+        asked(cache, indexed, catalog, calls, sixth),
         {
             cache.follow(catalog, indexed.table());
             asked(cache, indexed, catalog, calls, last)
@@ -163,7 +172,7 @@ fn asked<C: Detects>(
     requires remembers { Remembers (C.offers catalog.now) indexed.now.entries UE cache.old }
     ensures { Remembers (C.offers catalog.now) indexed.now.entries UE cache.new }
 {
-    let place = cache.first_place(indexed, catalog, &UE, packet);
+    let place = cache.own_place(indexed, catalog, &UE, packet);
     (place, calls.load(Ordering::SeqCst))
 }
 

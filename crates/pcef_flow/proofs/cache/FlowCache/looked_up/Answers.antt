@@ -11,6 +11,6 @@ returns-then-at-len-clause-remembers g c =
     let ignore = remembers.used c.if-self.true in
     record {
       right = notes_one offers entries c.args.ue.now c.self.inside.flows.items _ (record { flow = c.of-flow.result; place = c.first_place-place.result })
-          c.args.header.now ignore c.of-flow.ensures c.first_place-place.ensures remembers.right;
+          c.args.header.now ignore c.of-flow.ensures (c.requires.own, c.first_place-place.ensures) remembers.right;
       used = remembers.used;
     }
