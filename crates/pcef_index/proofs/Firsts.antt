@@ -1,6 +1,6 @@
 -- From the first rule of each part to the first of all.
-use Rattle.std.proofs.Common.{◌≡◌, ◌<◌, ◌≤◌, ◌+◌, ◌&&◌, ◌⊎◌, ◌∙◌, ℕ, Bool, true, false, Option, Some, None, List, length, refl, subst, sym, ap, arith, inl, inr}
-use Rattle.std.specs.Prelude.{IfSome, is_some, nat_lt, slice_get}
+use Rattle.std.proofs.Common.{◌≡◌, ◌<◌, ◌≤◌, ◌&&◌, ◌⊎◌, ◌∙◌, ℕ, Bool, true, false, Option, Some, None, List, length, refl, subst, sym, ap, arith, inl, inr}
+use Rattle.std.specs.Prelude.{is_some, nat_lt, slice_get}
 use Rattle.std.specs.Arc.{arc_value}
 use Rattle.std.specs.Option.{option_and_then, option_map_or}
 use Rattle.std.proofs.lemmas.Bool.{and_parts, cases_Bool, cases_lt, ltb-false, ltb-true}

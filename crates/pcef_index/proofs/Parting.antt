@@ -1,5 +1,5 @@
 -- Where rules of a base stand among others, one rule after the other.
-use Rattle.std.proofs.Common.{◌≡◌, ◌≢◌, ◌<◌, ◌≤◌, ◌+◌, ◌&&◌, ◌++◌, ◌⊎◌, ◌∙◌, ℕ, zero, suc, Bool, true, false, Option, Some, None, List, [], ◌∷◌, get_or, length, length-append, map, refl, replicate, subst, sym, ap, arith, inl, inr, slice_set}
+use Rattle.std.proofs.Common.{◌≡◌, ◌≢◌, ◌<◌, ◌≤◌, ◌+◌, ◌++◌, ◌⊎◌, ◌∙◌, ℕ, zero, suc, Option, Some, None, List, [], ◌∷◌, get_or, length, length-append, map, refl, replicate, subst, sym, ap, arith, inl, inr, slice_set}
 use Rattle.std.specs.Prelude.{IfSome, slice_get}
 use Rattle.std.specs.Arc.{arc_value}
 use Rattle.std.proofs.Math.ListN.{get_or-append}

@@ -1,12 +1,15 @@
 //! Steps: the ports at which the intervals begin that ranges make.
 
 ghost use Rattle.std.specs.Prelude.{◌≡◌, ◌≤◌, ◌<◌, ◌/◌, ◌^◌, IfOk, length};
-ghost use Rattle.pcef_index.specs.private.Starts.{ArePlaced, cell_at, cell_of, count_up};
+ghost use Rattle.pcef_index.specs.private.Starts.{ArePlaced, cell_at, cell_of, count_on, count_up};
 
 use std::alloc::{AllocError, Global};
 
 /// So many steps are compared one after the other.
 const MOST_COUNTED: usize = 16;
+
+/// So many steps are passed over at once where the last of them is at or below a port.
+const STRIDE: usize = 16;
 
 /// The ports where intervals begin, in ascending order, and where those of each high octet begin and end among them.
 #[derive(Drop)]
@@ -28,6 +31,24 @@ fn count_up(ports: &[u16], port: u16) -> usize
         }
     }
     ports.len()
+}
+
+/// The same of ports in ascending order, which may be many.
+#[inline(always)]
+fn count_on(ports: &[u16], port: u16) -> usize
+    ensures is { result ≡ count_on port ports.now }
+    ensures within { result ≤ length ports.now }
+{
+    let mut rest = ports;
+    let mut passed = 0;
+    while let Some(last) = rest.get(STRIDE - 1) {
+        if *last > port {
+            return passed + count_up(rest, port);
+        }
+        rest = &rest[STRIDE..];
+        passed += STRIDE;
+    }
+    passed + count_up(rest, port)
 }
 
 /// How many of these ports, in ascending order, are of no higher octet than one, as far as 16 bits count them; those up to
@@ -97,7 +118,7 @@ impl Steps {
         let octet = usize::from(port / 256);
         let from = usize::from(self.starts[octet]);
         let to = usize::from(self.starts[octet + 1]);
-        from + count_up(&self.ports[from..to], port)
+        from + count_on(&self.ports[from..to], port)
     }
 
     /// How many steps are at or below a port.

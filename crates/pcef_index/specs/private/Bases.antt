@@ -1,5 +1,5 @@
 -- Bases: rules that were looked up before, and where they stand among the rules of a table.
-use Rattle.std.specs.Prelude.{ℕ, ◌≡◌, ◌<◌, ◌≤◌, ◌&&◌, ◌⊎◌, Bool, true, false, List, Option, Some, None, IfSome, get_or, length, slice_get}
+use Rattle.std.specs.Prelude.{ℕ, ◌≡◌, ◌<◌, ◌≤◌, ◌&&◌, ◌⊎◌, Bool, true, false, List, Option, Some, None, get_or, length, slice_get}
 use Rattle.std.specs.Option.{option_map_or}
 use Rattle.std.specs.Arc.{arc_value}
 use Rattle.pcef_packet.specs.declared.header.Addr.{Addr}

@@ -1,5 +1,5 @@
 -- What an index keeps of its rules.
-use Rattle.std.specs.Prelude.{ℕ, ◌≡◌, ◌<◌, ◌≤◌, ◌⊎◌, IfSome, List, Option, Some, None, length}
+use Rattle.std.specs.Prelude.{ℕ, ◌<◌, ◌≤◌, ◌⊎◌, IfSome, List, Option, Some, None, length}
 use Rattle.pcef_table.specs.declared.entry.Source.{Source}
 use Rattle.pcef_table.specs.Tables.{most_entries}
 use Rattle.pcef_index.specs.declared.based.Based.{Based}

@@ -1,5 +1,5 @@
 -- Steps, the ports where intervals begin: how many are at or below a port, where those of each high octet stand together.
-use Rattle.std.specs.Prelude.{ℕ, ◌+◌, ◌-◌, ◌/◌, ◌≡◌, ◌≤◌, ◌<◌, ◌∷◌, [], List, drop, get_or, length, nat_le, nat_lt, take, if◌then◌else◌}
+use Rattle.std.specs.Prelude.{ℕ, zero, suc, ◌+◌, ◌-◌, ◌/◌, ◌≡◌, ◌≤◌, ◌<◌, ◌∷◌, [], List, drop, get_or, length, nat_le, nat_lt, take, if◌then◌else◌}
 
 -- the place of the first step of a high octet, or behind the last octet
 abbrev pub start : List ℕ → ℕ → ℕ
@@ -16,10 +16,19 @@ abbrev pub count_up : ℕ → List ℕ → ℕ
 count_up port [] = 0
 count_up port (step ∷ steps) = if nat_le step port then 1 + count_up port steps else 0
 
+-- the same of steps in ascending order: sixteen are passed over at once where the last of them is at or below the port,
+-- so many times at most
+abbrev pub count_over : ℕ → ℕ → List ℕ → ℕ
+count_over zero port steps = count_up port steps
+count_over (suc most) port steps = if nat_le (get_or steps 15 0) port then 16 + count_over most port (drop 16 steps) else count_up port steps
+
+abbrev pub count_on : ℕ → List ℕ → ℕ
+count_on port steps = count_over (length steps / 16) port steps
+
 -- the steps before a high octet, and those of this octet that are at or below a port
 abbrev pub cell_at : List ℕ → List ℕ → ℕ → ℕ → ℕ
 cell_at starts ports octet port =
-    start starts octet + count_up port (take (start starts (octet + 1) - start starts octet) (drop (start starts octet) ports))
+    start starts octet + count_on port (take (start starts (octet + 1) - start starts octet) (drop (start starts octet) ports))
 
 -- how many steps are at or below a port: where there are no starts, counted from the first on
 unfoldable pub cell_of : List ℕ → List ℕ → ℕ → ℕ

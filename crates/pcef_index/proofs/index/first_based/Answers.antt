@@ -1,4 +1,4 @@
-use Rattle.std.proofs.Common.{◌∙◌, Option, Some, None, ap, subst, sym}
+use Rattle.std.proofs.Common.{◌∙◌, Some, ap, subst, sym}
 use Rattle.std.specs.Prelude.{slice_get}
 use Rattle.pcef_index.specs.private.Bases.{IsFirstOf, fits_at}
 use Rattle.pcef_index.proofs.Entries.{entry_at, known_at, no_entry, sources_of}

@@ -1,5 +1,4 @@
-use Rattle.std.proofs.Common.{◌≡◌, ◌∙◌, List, Option, Some, ap, map, subst, ℕ}
-use Rattle.std.specs.Arc.{arc_value}
+use Rattle.std.proofs.Common.{◌∙◌, List, Some, ap, map, subst, ℕ}
 use Rattle.pcef_index.specs.declared.part.Part.{Part}
 use Rattle.pcef_index.specs.private.Bases.{AreCopies}
 use Rattle.pcef_index.proofs.Parting.{all_copied, copied}

@@ -1,9 +1,8 @@
-use Rattle.std.proofs.Common.{◌≡◌, ◌≤◌, ◌+◌, ◌++◌, ◌∷◌, ◌∙◌, ℕ, List, Option, Some, [], ap, arith, get_or, length, slice_set, subst, sym}
+use Rattle.std.proofs.Common.{◌≡◌, ◌+◌, ◌++◌, ◌∷◌, ◌∙◌, ℕ, List, Some, [], ap, arith, length, slice_set, subst, sym}
 use Rattle.std.specs.Prelude.{slice_get}
 use Rattle.std.specs.Arc.{arc_value}
 use Rattle.std.proofs.lemmas.Option.{slice_get-get_or}
 use Rattle.pcef_table.specs.declared.entry.Source.{Source}
-use Rattle.pcef_index.specs.declared.part.Part.{Part}
 use Rattle.pcef_index.proofs.Parting.{PlacedTo, left_over, placed_here, placed_rest}
 use Rattle.pcef_index.proofs.part.Part.over.Goals as goal
 use Rattle.pcef_index.proofs.part.Part.over.Goals.{in-Some, in-None+in_ok-push-in-None}

@@ -1,4 +1,3 @@
-use Rattle.std.proofs.Common.{◌≤◌}
 use Rattle.std.specs.Arc.{arc_value}
 use Rattle.pcef_index.proofs.Parting.{PlacedTo}
 use Rattle.pcef_index.proofs.part.Part.over.Given as goal
