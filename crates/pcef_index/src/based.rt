@@ -16,6 +16,9 @@ use std::alloc::{AllocError, Global};
 /// The most lines of rules that came since.
 const MOST_NEWER: usize = 64;
 
+/// The most lines of rules that went since: a packet may meet each of them.
+const MOST_GONE: usize = 64;
+
 /// The rules of a table, in one or two parts.
 #[derive(Drop)]
 pub(crate) struct Based {
@@ -103,7 +106,7 @@ impl Based {
         let gone = older
             .line_count()
             .saturating_sub(lines_of(sources).saturating_sub(newer));
-        if newer > MOST_NEWER || gone > older.line_count() / 2 {
+        if newer > MOST_NEWER || gone > MOST_GONE.min(older.line_count() / 2) {
             return Based::new(alloc, sources);
         }
         let newer = if rest.is_empty() {

@@ -60,7 +60,7 @@ pub(crate) struct Standing<'a> {
 }
 
 impl Standing<'_> {
-    /// Whether the part of a line fits a packet, and its rule is there.
+    /// Whether the rule of a line is there, and its part fits a packet.
     #[inline(always)]
     pub(crate) fn fits<C: Detects>(
         &self,
@@ -71,7 +71,7 @@ impl Standing<'_> {
     ) -> bool
         ensures { result ≡ standing_fits self.now.places.now (C.offers catalog.now) ue.now header.now line.now }
     {
-        line.fits(catalog, ue, header) && stands(self.places, line.place)
+        stands(self.places, line.place) && line.fits(catalog, ue, header)
     }
 }
 
