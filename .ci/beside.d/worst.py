@@ -4,8 +4,8 @@
 usage: worst.py FOLDER
 
 For each set FOLDER gets NAME.rules, NAME.packets, NAME.ue (the session's address) and NAME.expected (a rule's name or
-`unmatched` for each packet), in the formats of bench_pcef. Each set has 64 rules of 16 filters, for downlink packets.
-The sets are the same in each run.
+`unmatched` for each packet), in the formats of bench_pcef. A set has 64 rules of 16 filters, and downlink packets, but
+where it says otherwise. A set whose table is made by commands has NAME.lines besides. The sets are the same in each run.
 """
 import ipaddress
 import os
@@ -13,7 +13,7 @@ import random
 import sys
 
 import model
-from model import Filter, Table, write_set
+from model import UP, Filter, Table, write_set
 
 UE4, UE6 = ipaddress.ip_address("10.0.0.2"), ipaddress.ip_address("2001:db8:aa:bb::2")
 RULES, FILTERS = 64, 16
@@ -300,6 +300,128 @@ def thinned(is_wide):
     return make
 
 
+NEAR = "2001:db8:aa:bb::/64"  # the session's own network
+
+
+def assigned_remote():
+    """Filters whose remote side is `assigned`, and uplink packets to another address than the session's."""
+    return (all_alike(lambda r, k: Filter(remote="assigned", local=NEAR, is_in=True)),
+            [Packet(direction=UP, remote="2001:db8:1::1", far=9 + n, near=9) for n in range(64)])
+
+
+def assigned_remote_narrow():
+    """The same of version 4."""
+    return (all_alike(lambda r, k: Filter(remote="assigned", local="10.0.0.2", is_in=True)),
+            [Packet(direction=UP, far=9 + n, near=9) for n in range(64)])
+
+
+def other_local_wide():
+    """Version 6: local hosts of another network than the session's, behind remote networks and port lists that fit."""
+    return (all_alike(lambda r, k: Filter(remote="2001:db8:1::/127", local=f"2001:db8:aa:bc::{r:x}:{k:x}", far=[(1, 60000)],
+                                          near=[(1, 60000)])),
+            [Packet(remote="2001:db8:1::1", far=9 + n, near=9) for n in range(64)])
+
+
+def local_of_version_4():
+    """Version 6: all but sixteen local networks are of version 4, and stand in the sieves of version 6 nevertheless."""
+    return (all_alike(lambda r, k: Filter(remote="2001:db8:1::/127", local=f"10.{r}.{k}.0/24" if r else "2001:db8:aa:bc::1",
+                                          far=[(1, 60000)], near=[(1, 60000)])),
+            [Packet(remote="2001:db8:1::1", far=9 + n, near=9) for n in range(64)])
+
+
+def host_behind_all():
+    """Version 6: one local host of the session's network, behind remote networks and port lists that fit; packets of its
+    other hosts."""
+    first = int(ipaddress.ip_address("2001:db8:aa:bb:1122:3344:5566:7788"))
+    return (all_alike(lambda r, k: Filter(remote="2001:db8:1::/127", local=str(ipaddress.ip_address(first)), far=[(1, 60000)],
+                                          near=[(1, 60000)])),
+            [Packet(remote="2001:db8:1::1", local=str(ipaddress.ip_address(first ^ n + 1 << 8)), far=9 + n, near=9)
+             for n in range(64)])
+
+
+def just_missed(is_wide, is_spread, is_dense):
+    """Where ranges have 16,384 ends a side, ends that weigh eight in all may lie within an interval. Sixteen filters, half
+    of them by either side, have such an end right behind the packets' ports. Spread, they let each block's local word be
+    looked at; else all the others are for another local network. Dense, all ports below are steps."""
+    def make():
+        chosen, at = random.Random(5), 0x64FD
+        proto = 132
+        def ends():
+            # Twelve ends each make the packets' port, or all ports of its high octet below it, a step.
+            pool = [(port, port) for port in range(0x6400 if is_dense else at - 1, at, 2) for _ in range(12)]
+            while len(pool) < RULES * FILTERS * 8:
+                port = chosen.randrange(1000, 64000)
+                if port // 256 != 0x64 and port != 0x63FF:
+                    pool.append((port, port))
+            chosen.shuffle(pool)
+            return iter(pool)
+        far, near = ends(), ends()
+        remote = "2001:db8:1::/127" if is_wide else "198.51.100.6/31"
+        own = NEAR if is_wide else str(UE4)
+        other = own if is_spread else "2001:db8:aa:bc::1" if is_wide else "10.0.0.3"
+        few, holds, misses = [(100 + 10 * n, 105 + 10 * n) for n in range(7)], (2000, 64001), (at + 1, 64000)
+        places = [64 * n if is_spread else 1008 + n for n in range(16)]
+        def make_filter(r, k):
+            n = 16 * r + k
+            if n in places:
+                by_far = places.index(n) < 8
+                return Filter(proto=proto, remote=remote, local=own, far=few + [misses if by_far else holds],
+                              near=few + [holds if by_far else misses])
+            if n % 64 == 0:
+                return Filter(proto=proto, remote=remote, local=other, far=few + [holds], near=few + [holds])
+            # Steps of protocols, too: these are all of one high octet.
+            proto_of = n % 131 if n % 64 < 9 else proto
+            return Filter(proto=1 if proto_of in (6, 17) else proto_of, remote=remote, local=other,
+                          far=[next(far) for _ in range(8)], near=[next(near) for _ in range(8)])
+        return (all_alike(make_filter),
+                [Packet(proto=proto, remote="2001:db8:1::1" if is_wide else "198.51.100.7", far=at, near=at)
+                 for _ in range(16)])
+    return make
+
+
+LISTS = [(8000 * n + 1, 8000 * n + 7000) for n in range(7)]
+
+
+def searched(is_wide):
+    """Sixteen rules of one filter each, which are searched without a sieve; each fails at its last port range."""
+    def make():
+        remote, local = ("2001:db8:1::/127", NEAR) if is_wide else ("198.51.100.6/31", "10.0.0.0/8")
+        rules = [(f"r{r:02}", [Filter(proto=17, remote=remote, local=local, far=LISTS + [(56001, 65000)],
+                                      near=LISTS + [(56001, 63000)])]) for r in range(16)]
+        return rules, [Packet(remote="2001:db8:1::1" if is_wide else "198.51.100.7", far=60000 + n, near=63100 + n)
+                       for n in range(64)]
+    return make
+
+
+def installs(rules):
+    for precedence, (name, filters) in rules:
+        yield (f'{{"do":"install","rule":{{"name":"{name}","precedence":{precedence},"filters":'
+               f'[{",".join(filter_.line() for filter_ in filters)}],"qci":9,'
+               '"arp":{"level":8,"capability":false,"vulnerability":true},"gate":"ENABLED"}}')
+
+
+def gone(is_wide):
+    """Half of the rules of a full table, which fit all packets with their last port ranges, are removed. Their lines stay
+    in the base, and are compared before it is asked whether their rules stand. Nothing else fits. Three rules are changed
+    before, so that the base has all 64. The rules that are left, the packets, and the lines."""
+    def make():
+        remote, local = ("2001:db8:1::/127", NEAR) if is_wide else ("198.51.100.6/31", "10.0.0.0/8")
+        lists = LISTS + [(56001, 65000)]
+        def filters(where):
+            return [Filter(proto=17, remote=remote, local=where(k), far=lists, near=lists, flow="bidirectional")
+                    for k in range(FILTERS)]
+        fit = [(f"a{r:02}", filters(lambda k: local)) for r in range(RULES // 2)]
+        stay = [(f"b{r:02}", filters(lambda k: f"2001:db8:aa:bc::{r:x}:{k:x}" if is_wide else f"10.{r + 1}.{k}.1"))
+                for r in range(RULES // 2)]
+        lines = [*installs(enumerate(fit + stay, 1))]
+        stay[:3] = [(name, filters[::-1]) for name, filters in stay[:3]]
+        lines += installs(enumerate(stay[:3], RULES // 2 + 1))
+        lines += [f'{{"do":"remove","name":"{name}"}}' for name, _ in fit]
+        return stay, [Packet(direction=UP, remote="2001:db8:1::1" if is_wide else "198.51.100.7", far=56100 + n,
+                             near=56300 + n) for n in range(64)], lines
+    return make
+
+
 SETS = {
     "half_networks": half_networks, "networks_29": networks_of(29), "networks_32": networks_of(32),
     "networks_17": networks_of(17), "meeting_ranges": meeting_ranges, "meeting_ends": meeting_ends,
@@ -316,6 +438,11 @@ SETS = {
     "thinned": thinned(False), "thinned_wide": thinned(True),
     "nested_ends": nested_ends(False), "nested_ends_on_both_sides": nested_ends(True),
     "narrow_for_wide": other_version(6), "wide_for_narrow": other_version(4), "local_hosts": local_hosts,
+    "assigned_remote": assigned_remote, "assigned_remote_narrow": assigned_remote_narrow,
+    "other_local_wide": other_local_wide, "local_of_version_4": local_of_version_4, "host_behind_all": host_behind_all,
+    "just_missed": just_missed(True, False, True), "just_missed_narrow": just_missed(False, False, True),
+    "just_missed_spread": just_missed(True, True, False), "just_missed_spread_narrow": just_missed(False, True, False),
+    "searched": searched(True), "searched_narrow": searched(False), "gone": gone(True), "gone_narrow": gone(False),
     **{f"local_host_{octet:02}": local_host_octet(octet) for octet in range(8, 16)},
     **{f"host_{octet:02}": host_octet(octet) for octet in range(16)},
 }
@@ -324,9 +451,13 @@ SETS = {
 def write_sets(folder):
     os.makedirs(folder, exist_ok=True)
     for name, make in SETS.items():
-        filters, packets = make()
-        rules = [(f"r{rule:02}", filters[rule * FILTERS:(rule + 1) * FILTERS]) for rule in range(RULES)]
+        filters, packets, *lines = make()
+        rules = filters if isinstance(filters[0], tuple) else [
+            (f"r{rule:02}", filters[rule * FILTERS:(rule + 1) * FILTERS]) for rule in range(RULES)]
         write_set(folder, name, Table(rules, UE4 if packets[0].remote.version == 4 else UE6), packets)
+        if lines:
+            with open(os.path.join(folder, f"{name}.lines"), "w", encoding="utf-8") as file:
+                file.writelines(f"{line}\n" for line in lines[0])
 
 
 if __name__ == "__main__":
