@@ -65,6 +65,16 @@ fn text_of(rt: &HostRuntime, path: &[u8]) -> io::Result<String> {
     }
 }
 
+/// Appends the text of a file, or why it can't be read as text.
+fn push_text(
+    rt: &HostRuntime,
+    path: &[u8],
+    texts: &mut Vec<io::Result<String>>,
+) -> Result<(), AllocError> {
+    texts.push(text_of(rt, path))?;
+    Ok(())
+}
+
 /// The texts of the profiles that the arguments name. No file is read where they name none. Takes memory for them.
 pub(crate) fn profiles_of(
     rt: &HostRuntime,
@@ -72,7 +82,7 @@ pub(crate) fn profiles_of(
 ) -> Result<Vec<io::Result<String>>, AllocError> {
     let mut profiles = Vec::new(rt.alloc());
     for path in paths_of(words) {
-        profiles.push(text_of(rt, path.as_slice()))?;
+        push_text(rt, path.as_slice(), &mut profiles)?;
     }
     Ok(profiles)
 }

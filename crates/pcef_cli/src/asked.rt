@@ -64,19 +64,28 @@ pub(crate) struct Call {
     pub is_help: bool,
 }
 
-/// The call by one of these words, if it is one. Takes memory for the first two words of the program.
+/// Whether the first argument is `help`. Takes memory for it.
+fn begins_with_help<E: Env>(alloc: Global, env: &E) -> Result<bool, AllocError> {
+    match word(alloc, env, 1)? {
+        Some(first) => Ok(is_help(first.as_slice())),
+        None => Ok(false),
+    }
+}
+
+/// The word that the argument of a number is, if it is one. Takes memory for it.
+fn word_at<E: Env>(alloc: Global, env: &E, number: usize) -> Result<Option<Word>, AllocError> {
+    match word(alloc, env, number)? {
+        Some(octets) => Ok(Word::of(octets.as_slice())),
+        None => Ok(None),
+    }
+}
+
+/// The call by one of these words, if it is one. Takes memory for the first two arguments of the program, one by one.
 pub(crate) fn call_of<E: Env>(alloc: Global, env: &E) -> Result<Option<Call>, AllocError> {
-    let Some(first) = word(alloc, env, 1)? else {
-        return Ok(None);
-    };
-    let is_help = is_help(first.as_slice());
-    let asked = if is_help {
-        word(alloc, env, 2)?
-    } else {
-        Some(first)
-    };
-    match asked {
-        Some(asked) => Ok(Word::of(asked.as_slice()).map(|word| Call { word, is_help })),
+    let is_help = begins_with_help(alloc, env)?;
+    let number = if is_help { 2 } else { 1 };
+    match word_at(alloc, env, number)? {
+        Some(word) => Ok(Some(Call { word, is_help })),
         None => Ok(None),
     }
 }
