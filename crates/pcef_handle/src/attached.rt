@@ -19,8 +19,9 @@ use pcef_world::ApartWorker;
 use std::alloc::Global;
 use std::marker::Model;
 
-/// How many flows a session and each worker remember: some 5 KB.
-pub(crate) const MOST_FLOWS: usize = 64;
+/// How many flows a session and each worker remember: some 10 KB. With 64, one packet in eight of 24 connections in
+/// bursts found the place of its flow taken by another one.
+pub(crate) const MOST_FLOWS: usize = 128;
 
 /// A worker that is attached: the predefined rules, the worker, the flows that it judged last, and the number of its
 /// session. The table that it holds is one of the predefined rules, so a packet is judged without the session.
