@@ -44,16 +44,16 @@ fn address_of(word: &String) -> Option<Addr> {
     Addr::from_text(word.as_bytes())
 }
 
-/// Builds the index of the rules of a file `times` times, and writes the number of rules. False where the rules can't
-/// be read.
-fn build(rt: &HostRuntime, catalog: &Catalog, rules: &str, times: u32) -> io::Result<bool> {
+/// Builds the index of the rules of a file as many times as passes are asked for, and writes the number of rules. False
+/// where the rules can't be read.
+fn build(rt: &HostRuntime, catalog: &Catalog, rules: &str, work: Work) -> io::Result<bool> {
     let text = fs::read_to_string(rt, rules)?;
     let mut writer = io::writer(rt);
     let Ok(table) = rules::table(rt.alloc(), catalog, text.as_str()) else {
         return Ok(false);
     };
-    for _ in 0..times {
-        let _index = Index::build(rt.alloc(), &table, catalog)?;
+    for _ in 0..work.passes {
+        let _index = Index::build(rt.alloc(), &table, catalog, work.ue)?;
     }
     writeln!(writer, "rules {}", table.len())?;
     Ok(true)
@@ -113,7 +113,7 @@ fn run(
     let Ok(table) = rules::table(rt.alloc(), catalog, text.as_str()) else {
         return Ok(false);
     };
-    let rules = Indexed::new(rt.alloc(), table, catalog)?;
+    let rules = Indexed::new(rt.alloc(), table, catalog, work.ue)?;
     judge_file(rt, catalog, &rules, packets, work)?;
     Ok(true)
 }
@@ -137,10 +137,10 @@ fn do_as_asked(rt: &HostRuntime, catalog: &Catalog, words: &[String]) -> io::Res
     let Some(passes) = number(passes) else {
         return Ok(false);
     };
-    if packets.as_str() == "build" {
-        return build(rt, catalog, rules.as_str(), passes);
-    }
     let work = Work { passes, ue, way };
+    if packets.as_str() == "build" {
+        return build(rt, catalog, rules.as_str(), work);
+    }
     run(rt, catalog, rules.as_str(), packets.as_str(), work)
 }
 

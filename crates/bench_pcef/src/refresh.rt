@@ -17,6 +17,7 @@ ghost use Rattle.std.specs.Arc.{arc_value};
 use crate::arguments::number;
 use crate::laps::Lap;
 use pcef_index::Indexed;
+use pcef_packet::Addr;
 use pcef_publish::{Board, Cell, Opened, Publisher, Subscriber};
 use pcef_share::Naming;
 use std::alloc::{AllocError, Global};
@@ -52,12 +53,15 @@ fn load_of(words: &[String]) -> Option<Load> {
     })
 }
 
+/// The address of the sessions.
+const UE: Addr = Addr::V4(0x0a00_0002);
+
 /// The empty table of a generation.
 fn empty_table(alloc: Global, generation: u32) -> Result<Arc<Indexed>, AllocError>
     ensures number { IfOk result (λ t. (arc_value t).number ≡ generation) }
     ensures entries { IfOk result (λ t. (arc_value t).entries ≡ []) }
 {
-    Ok(Arc::new(alloc, Indexed::empty(alloc, generation)?)?)
+    Ok(Arc::new(alloc, Indexed::empty(alloc, generation, UE)?)?)
 }
 
 fn refresh_each<N: Naming>(subscribers: &mut [Subscriber<N>], times: u32) {

@@ -65,7 +65,7 @@ fn dns_table(alloc: Global, catalog: &Catalog) -> Option<Indexed>
         counted: false,
     };
     let table = Table::empty(alloc, 0).ok()?.with(catalog, entry).ok()?;
-    Indexed::new(alloc, table, catalog).ok()
+    Indexed::new(alloc, table, catalog, UE).ok()
 }
 
 /// What the table decides of a packet to the user equipment of this address, or why the octets are no packet.

@@ -1,6 +1,6 @@
 -- From the first rule of each part to the first of all.
 use Rattle.std.proofs.Common.{◌≡◌, ◌<◌, ◌≤◌, ◌&&◌, ◌⊎◌, ◌∙◌, ℕ, Bool, true, false, Option, Some, None, List, length, refl, subst, sym, ap, arith, inl, inr}
-use Rattle.std.specs.Prelude.{is_some, nat_lt, slice_get}
+use Rattle.std.specs.Prelude.{get_or, is_some, nat_lt, slice_get}
 use Rattle.std.specs.Arc.{arc_value}
 use Rattle.std.specs.Option.{option_and_then, option_map_or}
 use Rattle.std.proofs.lemmas.Bool.{and_parts, cases_Bool, cases_lt, ltb-false, ltb-true}
@@ -12,8 +12,9 @@ use Rattle.pcef_table.specs.declared.entry.Source.{Source}
 use Rattle.pcef_table.specs.Sources.{source_fits}
 use Rattle.pcef_base.proofs.Tests.{contrary}
 use Rattle.pcef_index.specs.declared.based.Based.{Based}
+use Rattle.pcef_index.specs.declared.based.Newer.{Newer}
 use Rattle.pcef_index.specs.declared.part.Part.{Part}
-use Rattle.pcef_index.specs.private.Bases.{HasPlace, IsFirstOf, IsFirstPlaced, IsPart, fits_at, place_in, stands_and_fits}
+use Rattle.pcef_index.specs.private.Bases.{HasPlace, IsFirstOf, IsFirstPlaced, IsFirstWithin, IsPart, Reaches, fits_at, place_in, stands_and_fits}
 use Rattle.pcef_index.specs.private.Firsts.{least}
 use Rattle.pcef_index.specs.private.Indexes.{HasPlaceIn, IsBased}
 
@@ -56,6 +57,27 @@ pub part_first : (offers : List Offer) (ue : Addr) (h : Header) (sources : List 
     → IsFirstOf (stands_and_fits p.places.items offers ue h (arc_value p.base)) o → IsFirstPlaced offers ue h sources p (option_and_then (place_in p) o)
 part_first offers ue h sources p None is first = λ k has. unplaced offers ue h sources p has.0 k is has.1 (first has.0)
 part_first offers ue h sources p (Some b) is first = placed_at offers ue h sources p b (place_in p b) is refl first.0 first.1
+
+weaken : (reach : ℕ) (offers : List Offer) (ue : Addr) (h : Header) (sources : List Source) (p : Part) (o : Option ℕ) → IsFirstPlaced offers ue h sources p o → IsFirstWithin reach offers ue h sources p o
+weaken reach offers ue h sources p None first = λ b k below there. first k (b, there)
+weaken reach offers ue h sources p (Some place) first = first
+
+-- the same where only so many first rules of the base are looked at
+pub part_within : (reach : ℕ) (few : List (Option ℕ)) (offers : List Offer) (ue : Addr) (h : Header) (sources : List Source) (p : Part) (o : Option ℕ) → IsPart sources p
+    → ((b : ℕ) → b < reach → get_or few b None ≡ place_in p b) → ((b : ℕ) → reach ≤ b → get_or few b None ≡ None) → IsFirstOf (stands_and_fits few offers ue h (arc_value p.base)) o
+    → IsFirstWithin reach offers ue h sources p (option_and_then (place_in p) o)
+part_within reach few offers ue h sources p None is same past first = λ b k below there.
+    unplaced offers ue h sources p b k is there (ap (λ (o : Option ℕ). fits_at offers ue h (arc_value p.base) b && is_some o) (sym (same b below)) ∙ first b)
+part_within reach few offers ue h sources p (Some n) is same past first =
+    let fits : (b : ℕ) → Bool = λ b. fits_at offers ue h (arc_value p.base) b in
+    let both = and_parts (fits n) (is_some (get_or few n None)) first.0 in
+    elim (cases_lt n reach) [
+      | inl below ↦
+          weaken reach offers ue h sources p (place_in p n)
+          (placed_at offers ue h sources p n (place_in p n) is refl (ap (λ (o : Option ℕ). fits n && is_some o) (sym (same n below)) ∙ first.0)
+          (λ c less. ap (λ (o : Option ℕ). fits c && is_some o) (sym (same c (omega (arith, below, less)))) ∙ first.1 c less))
+      | inr behind ↦ absurd (let none = ap is_some (past n (omega (arith, behind))) in let some = both.1 in cc)
+    ]
 
 -- a place is the least of those that pass among n, or none of these passes
 abbrev IsLeast : (ℕ → Bool) → ℕ → Option ℕ → Type 0
@@ -125,13 +147,28 @@ two_parts offers ue h sources p q (Some a) (Some b) all first second =
       )
     ]
 
+-- where the rules of a part that stand before a place are looked at, and another part has the first at this one
+bounded_parts : (reach : ℕ) (offers : List Offer) (ue : Addr) (h : Header) (sources : List Source) (p q : Part) (a : Option ℕ) (place : ℕ) → ((k : ℕ) → k < length sources → HasPlace p k ⊎ HasPlace q k)
+    → Reaches p reach place → IsFirstWithin reach offers ue h sources p a → IsFirstPlaced offers ue h sources q (Some place) → IsLeast (fits_at offers ue h sources) (length sources) (least a (Some place))
+bounded_parts reach offers ue h sources p q None place all reaches first second = (
+  second.0,
+  λ k small fits. elim (all k small) [
+    | inl has ↦ elim (cases_lt has.0 reach) [
+      | inl below ↦ contrary (fits_at offers ue h sources k) fits (first has.0 k below has.1)
+      | inr behind ↦ reaches has.0 k (omega (arith, behind)) has.1
+    ]
+    | inr has ↦ second.1 k has fits
+  ],
+)
+bounded_parts reach offers ue h sources p q (Some a) place all reaches first second = two_parts offers ue h sources p q (Some a) (Some place) all first second
+
 only_older : (b : Based) (k : ℕ) → b.newer ≡ None → HasPlace b.older k ⊎ HasPlaceIn b.newer k → HasPlace b.older k
 only_older b k none (inl has) = has
-only_older b k none (inr has) = absurd (subst (λ (o : Option Part). HasPlaceIn o k) none has)
+only_older b k none (inr has) = absurd (subst (λ (o : Option Newer). HasPlaceIn o k) none has)
 
-either_part : (b : Based) (newer : Part) (k : ℕ) → b.newer ≡ Some newer → HasPlace b.older k ⊎ HasPlaceIn b.newer k → HasPlace b.older k ⊎ HasPlace newer k
+either_part : (b : Based) (newer : Newer) (k : ℕ) → b.newer ≡ Some newer → HasPlace b.older k ⊎ HasPlaceIn b.newer k → HasPlace b.older k ⊎ HasPlace newer.part k
 either_part b newer k some (inl has) = inl has
-either_part b newer k some (inr has) = inr (subst (λ (o : Option Part). HasPlaceIn o k) some has)
+either_part b newer k some (inr has) = inr (subst (λ (o : Option Newer). HasPlaceIn o k) some has)
 
 -- the first place of all is that of the one part, or the lesser of those of the two
 pub first_of_one : (offers : List Offer) (ue : Addr) (h : Header) (sources : List Source) (b : Based) (o : Option ℕ) → IsBased sources b → b.newer ≡ None → IsFirstPlaced offers ue h sources b.older o
@@ -140,8 +177,21 @@ first_of_one offers ue h sources b o is none first =
     least_first offers ue h sources o
     (one_part offers ue h sources b.older o (λ k small. only_older b k none (is.all k small)) first)
 
-pub first_of_two : (offers : List Offer) (ue : Addr) (h : Header) (sources : List Source) (b : Based) (newer : Part) (x y : Option ℕ) → IsBased sources b → b.newer ≡ Some newer → IsFirstPlaced offers ue h sources b.older x
-    → IsFirstPlaced offers ue h sources newer y → IsFirstOf (fits_at offers ue h sources) (least x y)
+pub first_of_two : (offers : List Offer) (ue : Addr) (h : Header) (sources : List Source) (b : Based) (newer : Newer) (x y : Option ℕ) → IsBased sources b → b.newer ≡ Some newer
+    → IsFirstPlaced offers ue h sources b.older x → IsFirstPlaced offers ue h sources newer.part y → IsFirstOf (fits_at offers ue h sources) (least x y)
 first_of_two offers ue h sources b newer x y is some first second =
     least_first offers ue h sources (least x y)
-    (two_parts offers ue h sources b.older newer x y (λ k small. either_part b newer k some (is.all k small)) first second)
+    (two_parts offers ue h sources b.older newer.part x y (λ k small. either_part b newer k some (is.all k small)) first second)
+
+-- where no newer rule fits
+pub first_of_older : (offers : List Offer) (ue : Addr) (h : Header) (sources : List Source) (b : Based) (newer : Newer) (x : Option ℕ) → IsBased sources b → b.newer ≡ Some newer
+    → IsFirstPlaced offers ue h sources b.older x → IsFirstPlaced offers ue h sources newer.part None → IsFirstOf (fits_at offers ue h sources) x
+first_of_older offers ue h sources b newer None is some first second = first_of_two offers ue h sources b newer None None is some first second
+first_of_older offers ue h sources b newer (Some a) is some first second = first_of_two offers ue h sources b newer (Some a) None is some first second
+
+pub first_of_bounded : (reach : ℕ) (offers : List Offer) (ue : Addr) (h : Header) (sources : List Source) (b : Based) (newer : Newer) (x : Option ℕ) (place : ℕ) → IsBased sources b → b.newer ≡ Some newer
+    → Reaches b.older reach place → IsFirstWithin reach offers ue h sources b.older x → IsFirstPlaced offers ue h sources newer.part (Some place)
+    → IsFirstOf (fits_at offers ue h sources) (least x (Some place))
+first_of_bounded reach offers ue h sources b newer x place is some reaches first second =
+    least_first offers ue h sources (least x (Some place))
+    (bounded_parts reach offers ue h sources b.older newer.part x place (λ k small. either_part b newer k some (is.all k small)) reaches first second)

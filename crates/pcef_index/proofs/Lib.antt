@@ -1,5 +1,7 @@
+pub mod Agreeing
 pub mod Bits
-pub mod Blocks
+pub mod BlockLaws
+pub mod Bounding
 pub mod DigitLaws
 pub mod Firsts
 pub mod Entries
@@ -7,9 +9,12 @@ pub mod Growing
 pub mod Keeping
 pub mod Matching
 pub mod Numbering
+pub mod Owning
 pub mod Parting
 pub mod Places
 pub mod Placing
+pub mod Probing
+pub mod Running
 pub mod Searching
 pub mod Standing
 pub mod Stepping

@@ -8,9 +8,10 @@ use Rattle.std.proofs.lemmas.List.{get_or_push, get_or-set_other, get_or-set_sam
 use Rattle.std.proofs.lemmas.Option.{slice_get_within}
 use Rattle.pcef_table.specs.declared.entry.Source.{Source}
 use Rattle.pcef_index.specs.declared.based.Based.{Based}
+use Rattle.pcef_index.specs.declared.based.Newer.{Newer}
 use Rattle.pcef_index.specs.declared.part.Part.{Part}
 use Rattle.pcef_index.specs.private.Bases.{AreBelow, AreCopies, Ascend, Has, HasPlace, IsPart, IsRest}
-use Rattle.pcef_index.specs.private.Indexes.{HasPlaceIn, IsBased}
+use Rattle.pcef_index.specs.private.Indexes.{HasPlaceIn, IsBased, IsNewer}
 
 -- where rule b of a base stands
 abbrev pub at : List (Option ℕ) → ℕ → Option ℕ
@@ -205,7 +206,7 @@ has_below n ks k are small = (k, (let l = are.long in omega (arith, small)), are
 pub one_part : (sources : List Source) (b : Based) → b.newer ≡ None → IsPart sources b.older → ((k : ℕ) → k < length sources → HasPlace b.older k) → IsBased sources b
 one_part sources b none older all = record {
   older = older;
-  newer = subst (λ (o : Option Part). IfSome o (IsPart sources)) (sym none) tt;
+  newer = subst (λ (o : Option Newer). IfSome o (IsNewer sources b.older)) (sym none) tt;
   all = λ k small. inl (all k small);
 }
 
@@ -216,13 +217,13 @@ none_left sources p left empty rest k small =
       | inr stands ↦ stands
     ]
 
-pub two_parts : (sources : List Source) (b : Based) (newer : Part) (left : List ℕ) → b.newer ≡ Some newer → IsPart sources b.older → IsRest sources b.older left → IsPart sources newer → ((k : ℕ) → Has left k → HasPlace newer k)
-    → IsBased sources b
+pub two_parts : (sources : List Source) (b : Based) (newer : Newer) (left : List ℕ) → b.newer ≡ Some newer → IsPart sources b.older → IsRest sources b.older left → IsNewer sources b.older newer
+    → ((k : ℕ) → Has left k → HasPlace newer.part k) → IsBased sources b
 two_parts sources b newer left some older rest is all = record {
   older = older;
-  newer = subst (λ (o : Option Part). IfSome o (IsPart sources)) (sym some) is;
+  newer = subst (λ (o : Option Newer). IfSome o (IsNewer sources b.older)) (sym some) is;
   all = λ k small. elim (rest.all k small) [
-    | inl has ↦ inr (subst (λ (o : Option Part). HasPlaceIn o k) (sym some) (all k has))
+    | inl has ↦ inr (subst (λ (o : Option Newer). HasPlaceIn o k) (sym some) (all k has))
     | inr stands ↦ inl stands
   ];
 }

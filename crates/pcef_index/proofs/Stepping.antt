@@ -1,12 +1,14 @@
 -- How many steps are at or below a port.
-use Rattle.std.proofs.Common.{◌≡◌, ◌∙◌, ◌<◌, ◌≤◌, ◌+◌, ◌-◌, ◌*◌, ◌/◌, ◌^◌, ◌++◌, ◌⊎◌, ◌&&◌, ℕ, zero, suc, true, false, List, [], ◌∷◌, length, take, drop, get_or, nat_le, nat_lt, ap, refl, sym, subst, arith, inl, inr}
+use Rattle.std.proofs.Common.{◌≡◌, ◌<◌, ◌≤◌, ◌+◌, ◌-◌, ◌/◌, ◌^◌, ◌++◌, ◌⊎◌, ◌&&◌, ℕ, suc, true, false, List, [], ◌∷◌, length, take, drop, nat_le, nat_lt, refl, sym, subst, arith, inl, inr}
 use Rattle.std.proofs.lemmas.Bool.{and_parts, cases_Bool, cases_lt, cond_both, le-leb, leb-true, ltb-false, or_cases}
-use Rattle.std.proofs.lemmas.List.{length-drop, length-take}
+use Rattle.std.proofs.lemmas.List.{length-take}
 use Rattle.pcef_filter.specs.declared.filter.PortRange.{PortRange}
 use Rattle.pcef_filter.specs.Matching.{in_ranges}
 use Rattle.pcef_index.specs.declared.steps.Steps.{Steps}
+use Rattle.pcef_index.proofs.Bounding.{search_grows, search_most}
+use Rattle.pcef_index.specs.private.Bounds.{search}
 use Rattle.pcef_index.specs.private.Rows.{step_cell}
-use Rattle.pcef_index.specs.private.Starts.{ArePlaced, cell_at, cell_of, count_on, count_over, count_up, start}
+use Rattle.pcef_index.specs.private.Starts.{ArePlaced, cell_at, cell_of, count_on, count_up, start}
 
 pub count_le : (port : ℕ) (steps : List ℕ) → count_up port steps ≤ length steps
 count_le port [] = omega arith
@@ -24,59 +26,18 @@ count_grows a b (step ∷ steps) less =
       | inr above ↦ rw above (omega arith)
     ]
 
--- counting ends before a step that is above the port
-count_stops : (port k : ℕ) (steps : List ℕ) → k < length steps → nat_le (get_or steps k 0) port ≡ false → count_up port steps ≤ k
-count_stops port k [] less above = absurd (omega (arith, less))
-count_stops port zero (step ∷ steps) less above = rw above (omega arith)
-count_stops port (suc k) (step ∷ steps) less above =
-    let rest = count_stops port k steps (omega (arith, less)) above in
-    cond_both (nat_le step port) (1 + count_up port steps) 0 (λ (n : ℕ). n ≤ suc k) (λ _. omega (arith, rest)) (λ _. omega arith)
-
-over_le : (most port : ℕ) (steps : List ℕ) → most * 16 ≤ length steps → count_over most port steps ≤ length steps
-over_le zero port steps full = count_le port steps
-over_le (suc most) port steps full =
-    let left = length-drop 16 steps in
-    let rest = over_le most port (drop 16 steps) (omega (arith, left, full)) in
-    let plain = count_le port steps in
-    cond_both (nat_le (get_or steps 15 0) port) (16 + count_over most port (drop 16 steps)) (count_up port steps) (λ (n : ℕ). n ≤ length steps)
-    (λ _. omega (arith, rest, left, full)) (λ _. plain)
-
-over_stops : (most port : ℕ) (steps : List ℕ) → nat_le (get_or steps 15 0) port ≡ false → count_over most port steps ≡ count_up port steps
-over_stops zero port steps above = refl
-over_stops (suc most) port steps above = rw above refl
-
 on_le : (port : ℕ) (steps : List ℕ) → count_on port steps ≤ length steps
-on_le port steps = over_le (length steps / 16) port steps (omega arith)
-
-over_grows : (most a b : ℕ) (steps : List ℕ) → a ≤ b → most * 16 ≤ length steps → count_over most a steps ≤ count_over most b steps
-over_grows zero a b steps less full = count_grows a b steps less
-over_grows (suc most) a b steps less full =
-    let left = length-drop 16 steps in
-    let rest = over_grows most a b (drop 16 steps) less (omega (arith, left, full)) in
-    let last = get_or steps 15 0 in
-    elim (cases_Bool (nat_le last a)) [
-      | inl below ↦ (let at_a = leb-true last a below in rw (below, le-leb last b (omega (arith, at_a, less))) (omega (arith, rest)))
-      | inr above ↦
-          (let few = count_stops a 15 steps (omega (arith, full)) above in
-          let more = count_grows a b steps less in
-          rw above (cond_both (nat_le last b) (16 + count_over most b (drop 16 steps)) (count_up b steps) (λ (n : ℕ). count_up a steps ≤ n)
-          (λ _. omega (arith, few)) (λ _. more)))
-    ]
+on_le port steps =
+    let halves = search_most (length steps) steps port 0 (length steps) (omega arith) in
+    let plain = count_le port steps in
+    cond_both (nat_lt 16 (length steps)) (search (length steps) steps port 0 (length steps)) (count_up port steps) (λ (n : ℕ). n ≤ length steps) (λ _. halves) (λ _. plain)
 
 on_grows : (a b : ℕ) (steps : List ℕ) → a ≤ b → count_on a steps ≤ count_on b steps
-on_grows a b steps less = over_grows (length steps / 16) a b steps less (omega arith)
-
--- where the sixteenth step is at or below a port, sixteen are passed over
-pub on_passes : (port : ℕ) (steps : List ℕ) → 15 < length steps → nat_le (get_or steps 15 0) port ≡ true → count_on port steps ≡ 16 + count_on port (drop 16 steps)
-on_passes port steps long below =
-    let left : length (drop 16 steps) ≡ length steps - 16 = length-drop 16 steps in
-    let most : length steps / 16 ≡ suc (length (drop 16 steps) / 16) = omega (arith, left, long) in
-    ap (λ n. count_over n port steps) most ∙ rw below refl
-
--- where it is above the port, none is
-pub on_stops : (port : ℕ) (steps : List ℕ) → nat_le (get_or steps 15 0) port ≡ false → count_on port steps ≡ count_up port steps
-on_stops port steps above =
-    over_stops (length steps / 16) port steps above
+on_grows a b steps less =
+    elim (cases_Bool (nat_lt 16 (length steps))) [
+      | inl many ↦ rw many (search_grows (length steps) steps a b 0 (length steps) less (omega arith))
+      | inr few ↦ rw few (count_grows a b steps less)
+    ]
 
 -- the cells of ports of a high octet lie before the steps of the next
 pub cell_at_le : {starts ports : List ℕ} → ArePlaced starts ports → (octet port : ℕ) → octet < 256 → cell_at starts ports octet port ≤ start starts (octet + 1)

@@ -1,11 +1,16 @@
+pub mod Addresses
 pub mod AllSieves
 pub mod Bases
+pub mod Blocks
+pub mod Bounds
 pub mod Digits
 pub mod Firsts
 pub mod Indexes
 pub mod Kinds
 pub mod Lines
+pub mod Nets
 pub mod Rows
+pub mod Runs
 pub mod RuleFilters
 pub mod Sides
 pub mod Sieves

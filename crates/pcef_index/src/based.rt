@@ -1,12 +1,14 @@
 //! The rules of a table, looked up by one base or by two: one that an older table had, and one of the rules that came
 //! since.
 
-ghost use Rattle.std.specs.Prelude.{◌≡◌, ◌≤◌, List, IfOk, length};
+ghost use Rattle.std.specs.Prelude.{◌≡◌, ◌≤◌, ℕ, List, IfOk, IfSome, length};
 ghost use Rattle.pcef_table.specs.declared.entry.Source.{Source};
-ghost use Rattle.pcef_index.specs.private.Bases.{AreBelow, IsFirstOf, fits_at};
-ghost use Rattle.pcef_index.specs.private.Indexes.{IsBased};
+ghost use Rattle.pcef_index.specs.declared.part.Part.{Part};
+ghost use Rattle.pcef_index.specs.private.Bases.{AreBelow, AreReaches, Ascend, Has, HasPlace, IsFirstOf, Reaches, fits_at};
+ghost use Rattle.pcef_index.specs.private.Indexes.{IsBased, IsNewer};
 ghost use Rattle.pcef_index.specs.private.Firsts.{least};
 
+use crate::lines::is_for;
 use crate::part::Part;
 use pcef_catalog::Detects;
 use pcef_packet::{Addr, Header};
@@ -16,8 +18,16 @@ use std::alloc::{AllocError, Global};
 /// The most lines of rules that came since.
 const MOST_NEWER: usize = 64;
 
-/// The most lines of rules that went since: a packet may meet each of them.
-const MOST_GONE: usize = 64;
+/// The most rules of an older base that went since, where none came. Their lines make intervals and words to look at.
+const MOST_GONE: usize = 3;
+
+/// The rules of a table that came since its older base was made.
+#[derive(Drop)]
+pub(crate) struct Newer {
+    part: Part,
+    /// For each place of the table, how many of the older base's first rules may stand before it.
+    reaches: Vec<usize>,
+}
 
 /// The rules of a table, in one or two parts.
 #[derive(Drop)]
@@ -25,7 +35,7 @@ pub(crate) struct Based {
     /// Those of a base that an older table may have had.
     older: Part,
     /// The others, where there are any.
-    newer: Option<Part>,
+    newer: Option<Newer>,
 }
 
 /// How many lines a rule has.
@@ -36,24 +46,35 @@ pub(crate) fn line_count(source: &Source) -> usize {
     }
 }
 
-/// How many lines the rules have.
-fn lines_of(sources: &[Source]) -> usize {
+/// How many lines of a rule may fit packets of a session.
+fn own_lines(source: &Source, ue: Addr) -> usize {
+    match source {
+        Source::Dynamic(rule) => {
+            let mut count = 0usize;
+            for filter in rule.filters() {
+                count = count.saturating_add(usize::from(is_for(filter, ue)));
+            }
+            count
+        }
+        Source::Predefined(_) => 1,
+    }
+}
+
+/// How many lines of the rules at some places may fit packets of a session.
+fn lines_at(sources: &[Source], places: &[u8], ue: Addr) -> usize {
     let mut count = 0usize;
-    for source in sources {
-        count = count.saturating_add(line_count(source));
+    for place in places {
+        if let Some(source) = sources.get(usize::from(*place)) {
+            count = count.saturating_add(own_lines(source, ue));
+        }
     }
     count
 }
 
-/// How many lines the rules at some places have.
-fn lines_at(sources: &[Source], places: &[u8]) -> usize {
-    let mut count = 0usize;
-    for place in places {
-        if let Some(source) = sources.get(usize::from(*place)) {
-            count = count.saturating_add(line_count(source));
-        }
-    }
-    count
+/// How many rules of an older base may be gone beside rules at some places that came since: where both bases are asked,
+/// none.
+fn most_gone(rest: &[u8]) -> usize {
+    if rest.is_empty() { MOST_GONE } else { 0 }
 }
 
 /// The lesser of two places, where there are any.
@@ -80,14 +101,55 @@ fn all_places(alloc: Global, sources: &[Source]) -> Result<Vec<u8>, AllocError>
     Ok(places)
 }
 
+/// How many of a part's first rules may stand before each of the first places.
+fn reaches_of(alloc: Global, older: &Part, places: usize) -> Result<Vec<usize>, AllocError>
+    requires { places ≤ 64 }
+    ensures { IfOk result (λ v. AreReaches older.now v.items) }
+{
+    let mut reaches = Vec::with_capacity(alloc, places)?;
+    for place in 0..places {
+        reaches.push(older.reach(place as u8))?;
+    }
+    Ok(reaches)
+}
+
+impl Newer {
+    /// The rules at some places, which have a base of their own, beside those of an older base. Fails when out of memory.
+    fn new(
+        alloc: Global,
+        older: &Part,
+        sources: &[Source],
+        places: Vec<u8>,
+        ue: Addr,
+    ) -> Result<Newer, AllocError>
+        requires few { length sources.now ≤ 64 }
+        requires places { Ascend (length sources.now) places.items }
+        ensures newer { IfOk result (IsNewer sources.now older.now) }
+        ensures all { IfOk result (λ n. (k : ℕ) → Has places.items k → HasPlace n.part k) }
+    {
+        let reaches = reaches_of(alloc, older, sources.len())?;
+        let part = Part::new(alloc, sources, places, ue)?;
+        Ok(Newer { part, reaches })
+    }
+
+    /// How many of the older base's first rules may stand before a place.
+    #[inline(always)]
+    fn reach(&self, place: u8) -> Option<usize>
+        ensures { (older : Part) → AreReaches older self.now.reaches.items → IfSome result (λ r. Reaches older r place) }
+    {
+        let reach = self.reaches.get(usize::from(place))?;
+        Some(*reach)
+    }
+}
+
 impl Based {
-    /// Rules with a base of their own. Fails when out of memory.
-    pub(crate) fn new(alloc: Global, sources: &[Source]) -> Result<Based, AllocError>
+    /// Rules with a base of their own, for a session with this address. Fails when out of memory.
+    pub(crate) fn new(alloc: Global, sources: &[Source], ue: Addr) -> Result<Based, AllocError>
         requires { length sources.now ≤ 64 }
         ensures { IfOk result (IsBased sources.now) }
     {
         let places = all_places(alloc, sources)?;
-        let older = Part::new(alloc, sources, places)?;
+        let older = Part::new(alloc, sources, places, ue)?;
         Ok(Based { older, newer: None })
     }
 
@@ -97,27 +159,32 @@ impl Based {
         alloc: Global,
         older: &Based,
         sources: &[Source],
+        ue: Addr,
     ) -> Result<Based, AllocError>
         requires { length sources.now ≤ 64 }
         ensures { IfOk result (IsBased sources.now) }
     {
         let (older, rest) = Part::over(alloc, older.older.base()?, sources)?;
-        let newer = lines_at(sources, &rest);
-        let gone = older
-            .line_count()
-            .saturating_sub(lines_of(sources).saturating_sub(newer));
-        if newer > MOST_NEWER || gone > MOST_GONE.min(older.line_count() / 2) {
-            return Based::new(alloc, sources);
+        if lines_at(sources, &rest, ue) > MOST_NEWER || older.has_lost_many(most_gone(&rest)) {
+            return Based::new(alloc, sources, ue);
         }
         let newer = if rest.is_empty() {
             None
         } else {
-            Some(Part::new(alloc, sources, rest)?)
+            Some(Newer::new(alloc, &older, sources, rest, ue)?)
         };
         Ok(Based { older, newer })
     }
 
-    /// The place of the first rule that fits a packet.
+    /// Whether the packets of a session with this address are looked up by its bases.
+    pub(crate) fn is_for(&self, ue: Addr) -> bool {
+        match &self.newer {
+            None => self.older.is_for(ue),
+            Some(newer) => self.older.is_for(ue) && newer.part.is_for(ue),
+        }
+    }
+
+    /// The place of the first rule that fits a packet. The newer rules are asked first: they are few.
     #[inline(always)]
     pub(crate) fn first_place<C: Detects>(
         &self,
@@ -128,10 +195,16 @@ impl Based {
         ensures { (sources : List Source) → IsBased sources self.now
             → IsFirstOf (fits_at (C.offers catalog.now) ue.now header.now sources) result }
     {
-        let older = self.older.first_place(catalog, ue, header);
-        match &self.newer {
-            None => older,
-            Some(newer) => least(older, newer.first_place(catalog, ue, header)),
-        }
+        let Some(newer) = &self.newer else {
+            return self.older.first_place(catalog, ue, header);
+        };
+        let Some(place) = newer.part.first_place(catalog, ue, header) else {
+            return self.older.first_place(catalog, ue, header);
+        };
+        let older = match newer.reach(place) {
+            None => self.older.first_place(catalog, ue, header),
+            Some(reach) => self.older.first_within(reach, catalog, ue, header),
+        };
+        least(older, Some(place))
     }
 }

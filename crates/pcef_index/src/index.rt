@@ -18,8 +18,8 @@ use pcef_table::{Source, Table, TableEntry, gate_verdict, is_own};
 use std::alloc::{AllocError, Global};
 use std::marker::Model;
 
-/// Up to this many filters are searched one after the other: as many as one rule has at most.
-const MOST_SEARCHED: usize = 16;
+/// Up to this many filters are searched one after the other.
+const MOST_SEARCHED: usize = 6;
 
 /// The compiled index of a table. Contracts see the rules of the table's entries, in order. It keeps copies of the
 /// rules, which share their filters, so that its answers are about these rules, whatever becomes of the table. A few
@@ -74,11 +74,23 @@ fn are_few(sources: &[Source]) -> bool {
     true
 }
 
+/// Whether a predefined rule is among some. Its closure is called for no packet that an earlier rule decides: one base
+/// looks at lines in their order, where two are both asked.
+fn call_closures(sources: &[Source]) -> bool {
+    for source in sources {
+        if let Source::Predefined(_) = source {
+            return true;
+        }
+    }
+    false
+}
+
 /// The rules with a base, if they have many filters: that of older rules, where most of these are among them.
 fn based_if_many(
     alloc: Global,
     older: Option<&Based>,
     sources: &[Source],
+    ue: Addr,
 ) -> Result<Option<Based>, AllocError>
     requires { length sources.now ≤ 64 }
     ensures { IfOk result (λ b. IfSome b (IsBased sources.now)) }
@@ -87,8 +99,8 @@ fn based_if_many(
         return Ok(None);
     }
     let based = match older {
-        None => Based::new(alloc, sources)?,
-        Some(older) => Based::after(alloc, older, sources)?,
+        None => Based::new(alloc, sources, ue)?,
+        Some(older) => Based::after(alloc, older, sources, ue)?,
     };
     Ok(Some(based))
 }
@@ -98,15 +110,16 @@ pub(crate) fn index_of(
     alloc: Global,
     older: Option<&Index>,
     sources: Vec<Source>,
+    ue: Addr,
 ) -> Result<Index, AllocError>
     requires { length sources.items ≤ 64 }
     ensures { IfOk result (λ i. i ≡ sources.items) }
 {
     let older = match older {
-        Some(index) => index.based.as_ref(),
-        None => None,
+        Some(index) if !call_closures(&sources) => index.based.as_ref(),
+        _ => None,
     };
-    let based = based_if_many(alloc, older, &sources)?;
+    let based = based_if_many(alloc, older, &sources, ue)?;
     Ok(Index { sources, based })
 }
 
@@ -135,20 +148,26 @@ fn first_based<'a, C: Detects>(
 }
 
 impl Index {
-    /// The index of a table, or out of memory. The catalog isn't read: the closure of a predefined rule is called for
-    /// each packet.
-    pub fn build<C: Offers>(alloc: Global, table: &Table, _catalog: &C) -> Result<Index, AllocError>
+    /// The index of a table, for a session with the address `ue`, or out of memory. Packets of other addresses are judged as
+    /// well, but slower. The catalog isn't read: the closure of a predefined rule is called as packets come, for each that
+    /// no earlier rule decides.
+    pub fn build<C: Offers>(
+        alloc: Global,
+        table: &Table,
+        _catalog: &C,
+        ue: Addr,
+    ) -> Result<Index, AllocError>
         ensures { IfOk result (λ i. i ≡ map (λ e. e.source) table.now.entries) }
     {
-        index_of(alloc, None, table.sources(alloc)?)
+        index_of(alloc, None, table.sources(alloc)?, ue)
     }
 
     /// The index of a table that comes after this one's, or out of memory. Where most rules are those of an older table,
     /// it looks these up as that table does, and takes memory for the others alone.
-    pub(crate) fn after(&self, alloc: Global, table: &Table) -> Result<Index, AllocError>
+    pub(crate) fn after(&self, alloc: Global, table: &Table, ue: Addr) -> Result<Index, AllocError>
         ensures { IfOk result (λ i. i ≡ map (λ e. e.source) table.now.entries) }
     {
-        index_of(alloc, Some(self), table.sources(alloc)?)
+        index_of(alloc, Some(self), table.sources(alloc)?, ue)
     }
 
     /// The rules, in order.
@@ -156,6 +175,14 @@ impl Index {
         ensures { result.now ≡ self.now }
     {
         &self.sources
+    }
+
+    /// Whether the packets of a session with this address are looked up by its bases, if it has any.
+    pub(crate) fn is_for(&self, ue: Addr) -> bool {
+        match &self.based {
+            None => true,
+            Some(based) => based.is_for(ue),
+        }
     }
 
     /// Whether there is a base. Its sieves take memory for each 64 filters.

@@ -49,6 +49,8 @@ fn undecided(verdict: Verdict) -> Decision
 pub struct Indexed {
     table: Table,
     index: Arc<Index>,
+    /// The session's address, for which the index is made.
+    ue: Addr,
     // The index was put on a shelf or taken from one, so there is no need to look for it again.
     is_shelved: bool,
 }
@@ -59,6 +61,7 @@ impl Drop for Indexed {
         let Indexed {
             table: _,
             index: _,
+            ue: _,
             is_shelved: _,
         } = self;
     }
@@ -77,29 +80,37 @@ impl Model for Indexed {
 }
 
 impl Indexed {
-    /// The table of a generation without rules, with its index. Fails when out of memory.
-    pub fn empty(alloc: Global, generation: u32) -> Result<Indexed, AllocError>
+    /// The table of a generation without rules, with its index, for a session with the address `ue`. Fails when out of memory.
+    pub fn empty(alloc: Global, generation: u32, ue: Addr) -> Result<Indexed, AllocError>
         ensures number { IfOk result (λ i. i.number ≡ generation) }
         ensures entries { IfOk result (λ i. i.entries ≡ []) }
         ensures session { IfOk result (λ i. i.session ≡ no_slots) }
     {
         let table = Table::empty(alloc, generation)?;
-        let index = Arc::new(alloc, index_of(alloc, None, Vec::new(alloc))?)?;
+        let index = Arc::new(alloc, index_of(alloc, None, Vec::new(alloc), ue)?)?;
         Ok(Indexed {
             table,
             index,
+            ue,
             is_shelved: false,
         })
     }
 
-    /// The table with its index. When out of memory, the table is dropped.
-    pub fn new<C: Offers>(alloc: Global, table: Table, catalog: &C) -> Result<Indexed, AllocError>
+    /// The table with its index, for a session with the address `ue`: packets of other addresses are judged as well, but
+    /// slower. When out of memory, the table is dropped.
+    pub fn new<C: Offers>(
+        alloc: Global,
+        table: Table,
+        catalog: &C,
+        ue: Addr,
+    ) -> Result<Indexed, AllocError>
         ensures { IfOk result (λ i. i ≡ table) }
     {
-        let index = Arc::new(alloc, Index::build(alloc, &table, catalog)?)?;
+        let index = Arc::new(alloc, Index::build(alloc, &table, catalog, ue)?)?;
         Ok(Indexed {
             table,
             index,
+            ue,
             is_shelved: false,
         })
     }
@@ -109,10 +120,11 @@ impl Indexed {
     pub fn after(&self, alloc: Global, table: Table) -> Result<Indexed, AllocError>
         ensures { IfOk result (λ i. i ≡ table) }
     {
-        let index = Arc::new(alloc, self.index.after(alloc, &table)?)?;
+        let index = Arc::new(alloc, self.index.after(alloc, &table, self.ue)?)?;
         Ok(Indexed {
             table,
             index,
+            ue: self.ue,
             is_shelved: false,
         })
     }
@@ -126,6 +138,7 @@ impl Indexed {
         Ok(Indexed {
             table,
             index,
+            ue: self.ue,
             is_shelved: self.is_shelved,
         })
     }
@@ -142,6 +155,11 @@ impl Indexed {
         ensures { result.now ≡ map (λ e. e.source) self.now.entries }
     {
         &self.index
+    }
+
+    /// Whether an index looks the packets of its session up.
+    pub(crate) fn is_served_by(&self, index: &Index) -> bool {
+        index.is_for(self.ue)
     }
 
     /// Whether the index takes memory that other tables could share, and was on no shelf yet.

@@ -4,29 +4,37 @@
 //! Its contracts say: the same verdict and slots as the table's, with the place of the rule that decided, by one look-up,
 //! and which entries may match a header; that a shared index changes nothing.
 //!
-//! In the order of reading: `candidates`, `rule_filter`, `lines`, `sides`, `kinds`, `words`, `digits`, `ends`, `steps`,
-//! `choosing`, `rows`, `sieve`, `sieves`, `base`, `equal`, `part`, `based`, `index`, `indexed`, `fingerprint`, `shelf`.
+//! In the order of reading: `candidates`, `rule_filter`, `lines`, `sides`, `kinds`, `words`, `blocks`, `fields`, `ends`,
+//! `steps`, `rows`, `digits`, `bounds`, `nets`, `addresses`, `free`, `runs`, `sieve`, `sieving`, `sieves`, `base`, `equal`,
+//! `part`, `based`, `index`, `indexed`, `fingerprint`, `shelf`.
 #![tactic(auto)]
 
+mod addresses;
 mod base;
 mod based;
+mod blocks;
+mod bounds;
 mod candidates;
-mod choosing;
 mod digits;
 mod ends;
 mod equal;
+mod fields;
 mod fingerprint;
+mod free;
 mod index;
 mod indexed;
 mod kinds;
 mod lines;
+mod nets;
 mod part;
 mod rows;
 mod rule_filter;
+mod runs;
 mod shelf;
 mod sides;
 mod sieve;
 mod sieves;
+mod sieving;
 mod steps;
 mod words;
 

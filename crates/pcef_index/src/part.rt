@@ -1,8 +1,8 @@
 //! Part of the rules of a table: those that a base has, too.
 
-ghost use Rattle.std.specs.Prelude.{◌≡◌, ◌≤◌, ℕ, List, IfOk, IfSome, Some, length, map, slice_get};
+ghost use Rattle.std.specs.Prelude.{◌≡◌, ◌≤◌, ◌<◌, ℕ, List, IfOk, IfSome, None, Some, get_or, length, map, slice_get};
 ghost use Rattle.pcef_table.specs.declared.entry.Source.{Source};
-ghost use Rattle.pcef_index.specs.private.Bases.{AreCopies, Ascend, Has, HasPlace, IsFirstPlaced, IsPart, IsRest};
+ghost use Rattle.pcef_index.specs.private.Bases.{AreCopies, Ascend, Has, HasPlace, IsFirstPlaced, IsFirstWithin, IsPart, IsRest, Reaches, place_in};
 
 use crate::base::Base;
 use crate::equal::is_equal;
@@ -56,11 +56,12 @@ fn copies_at(alloc: Global, sources: &[Source], places: &[u8]) -> Result<Vec<Sou
 }
 
 impl Part {
-    /// The rules at some places, with a base of their own. Fails when out of memory.
+    /// The rules at some places, with a base of their own, for a session with this address. Fails when out of memory.
     pub(crate) fn new(
         alloc: Global,
         sources: &[Source],
         places: Vec<u8>,
+        ue: Addr,
     ) -> Result<Part, AllocError>
         requires few { length sources.now ≤ 64 }
         requires places { Ascend (length sources.now) places.items }
@@ -68,7 +69,7 @@ impl Part {
         ensures all { IfOk result (λ p. (k : ℕ) → Has places.items k → HasPlace p k) }
     {
         let copies = copies_at(alloc, sources, &places)?;
-        let base = Arc::new(alloc, Base::new(alloc, copies)?)?;
+        let base = Arc::new(alloc, Base::new(alloc, copies, ue)?)?;
         let places = somes(alloc, &places)?;
         Ok(Part { base, places })
     }
@@ -103,9 +104,65 @@ impl Part {
         Arc::try_clone(&self.base)
     }
 
-    /// How many lines the base has, those of rules that aren't in the table among them.
-    pub(crate) fn line_count(&self) -> usize {
-        self.base.line_count()
+    /// Whether the packets of a session with this address are looked up by its base.
+    pub(crate) fn is_for(&self, ue: Addr) -> bool {
+        self.base.is_for(ue)
+    }
+
+    /// Whether more of the base's rules than so many aren't in the table, or most of them.
+    pub(crate) fn has_lost_many(&self, most: usize) -> bool {
+        let mut gone = 0usize;
+        for place in &self.places {
+            if place.is_none() {
+                gone = gone.saturating_add(1);
+            }
+        }
+        gone > most || gone > self.places.len() / 2
+    }
+
+    /// How many of the base's first rules may stand before a place.
+    pub(crate) fn reach(&self, place: u8) -> usize
+        ensures { Reaches self.now result place }
+    {
+        let mut reach = 0;
+        for number in 0..self.places.len() {
+            if let Some(there) = self.places[number] {
+                if there < place {
+                    reach = number + 1;
+                }
+            }
+        }
+        reach
+    }
+
+    /// The places of so many of the base's first rules.
+    #[inline(always)]
+    fn first_places(&self, reach: usize) -> &[Option<u8>]
+        ensures same { (b : ℕ) → b < reach → get_or result.now b None ≡ place_in self.now b }
+        ensures past { (b : ℕ) → reach ≤ b → get_or result.now b None ≡ None }
+    {
+        &self.places[..reach.min(self.places.len())]
+    }
+
+    /// The place of the first of its rules that fits a packet, among so many of the base's first rules.
+    #[inline(always)]
+    pub(crate) fn first_within<C: Detects>(
+        &self,
+        reach: usize,
+        catalog: &C,
+        ue: &Addr,
+        header: &Header,
+    ) -> Option<u8>
+        ensures { (sources : List Source) → IsPart sources self.now
+            → IsFirstWithin reach (C.offers catalog.now) ue.now header.now sources self.now result }
+    {
+        if reach == 0 {
+            return None;
+        }
+        let number = self
+            .base
+            .first_standing(self.first_places(reach), catalog, ue, header)?;
+        *self.places.get(usize::from(number))?
     }
 
     /// The place of the first of its rules that fits a packet.

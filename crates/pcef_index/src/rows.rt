@@ -1,109 +1,126 @@
 //! Which lines let a number pass, by ranges.
 
-ghost use Rattle.std.specs.Prelude.{◌≡◌, ◌≤◌, ◌<◌, ◌+◌, ◌*◌, ◌^◌, ℕ, IfSome, OnOk, length, true};
-ghost use Rattle.std.specs.Int.{bit_at};
+ghost use Rattle.std.specs.Prelude.{◌≡◌, ◌≤◌, ◌<◌, ◌+◌, ◌/◌, ◌^◌, ℕ, IfOk, IfSome, length, true};
 ghost use Rattle.pcef_filter.specs.Matching.{in_ranges};
-ghost use Rattle.pcef_index.specs.declared.rows.Rows.{Rows};
-ghost use Rattle.pcef_index.specs.private.Rows.{AreRows, IsRowOf, LetsNumber, MarksRanges, row_count, row_of};
-ghost use Rattle.pcef_index.specs.private.Words.{Grows, Has};
+ghost use Rattle.pcef_index.specs.private.Rows.{AreRows, LetsNumber, row_of};
 
+use crate::blocks::{BlockWords, Layout};
+use crate::ends::Ends;
+use crate::fields::{Field, add_ends, proto_of, ranges_on};
+use crate::lines::Line;
 use crate::steps::Steps;
-use crate::words::{Spot, mark_words};
+use crate::words::{Spot, block_of};
 use pcef_filter::PortRange;
 use std::alloc::{AllocError, Global};
 
-/// Which of the lines that look at a number let it pass: for each 64 lines, for each interval between steps, a word with a
-/// bit for each line. No rows where no line looks at the number.
+/// Which of the lines that look at a number let it pass: words by the intervals between the ends of their ranges.
 #[derive(Drop)]
 pub(crate) struct Rows {
-    steps: Steps,
-    words: Vec<u64>,
+    /// The ends.
+    pub steps: Steps,
+    /// The words, a row for each interval.
+    pub words: BlockWords,
 }
 
-/// Sets a bit in the rows of ranges; the first row is the word at `at`.
-fn mark_ranges(words: &mut [u64], at: usize, bit: u32, steps: &Steps, ranges: &[PortRange])
-    requires bit { bit < 64 }
-    requires within { at + length steps.now.ports.items < length words.old }
-    ensures { MarksRanges words.old words.new at bit steps.now ranges.now }
-{
+/// Notes the rows at which ranges begin, and those behind their last.
+fn note_ranges(begins: &mut [bool], steps: &Steps, ranges: &[PortRange]) {
     for range in ranges {
-        let first = at + steps.cell_of(range.first);
-        let last = at + steps.cell_of(range.last);
-        mark_words(words, bit, first, last);
+        note(begins, steps.cell_of(range.first));
+        if range.last < u16::MAX {
+            note(begins, steps.cell_of(range.last + 1));
+        }
     }
+}
+
+/// Notes a row.
+pub(crate) fn note(begins: &mut [bool], row: usize) {
+    if let Some(begins) = begins.get_mut(row) {
+        *begins = true;
+    }
+}
+
+/// Notes the rows at which the ranges of a line begin, and those behind their last.
+fn note_line(begins: &mut [bool], steps: &Steps, field: Field, line: &Line) {
+    match field {
+        Field::Port(side) => note_ranges(begins, steps, ranges_on(side, line)),
+        Field::Proto => {
+            if let Some(range) = proto_of(line) {
+                note_ranges(begins, steps, &[range]);
+            }
+        }
+        Field::Nothing => (),
+    }
+}
+
+/// The ends of what lines let pass of a field. None is left in `ends`.
+fn steps_of(
+    alloc: Global,
+    ends: &mut Ends,
+    field: Field,
+    lines: &[Line],
+    numbers: &[usize],
+) -> Result<Steps, AllocError> {
+    for number in numbers {
+        if let Some(line) = lines.get(*number) {
+            add_ends(ends, field, line);
+        }
+    }
+    Steps::new(alloc, ends.take(alloc)?)
 }
 
 impl Rows {
-    /// No line looks at the number. The rows will be those between these steps.
-    pub(crate) fn none(alloc: Global, steps: Steps) -> Rows
-        ensures { (blocks : ℕ) → AreRows blocks result }
-    {
-        Rows {
-            steps,
-            words: Vec::new(alloc),
-        }
-    }
-
-    /// Takes memory for the rows of so many blocks, unless they are there.
-    fn make(&mut self, alloc: Global, blocks: usize) -> Result<(), AllocError>
-        requires { AreRows blocks self.old }
-        ensures there { OnOk result (length self.new.words.items ≡ row_count self.new * blocks) }
-        ensures keeps { (block n i : ℕ) → LetsNumber self.old block n i → LetsNumber self.new block n i }
-    {
-        if !self.words.is_empty() {
-            return Ok(());
-        }
-        let Some(count) = (self.steps.len() + 1).checked_mul(blocks) else {
-            return Err(AllocError);
-        };
-        self.words = vec![in alloc; 0u64; count]?;
-        Ok(())
-    }
-
-    /// Adds a line, which lets the numbers of these ranges pass. Fails when out of memory.
-    pub(crate) fn add(
-        &mut self,
+    /// The rows of lines with these numbers, none of which is added yet. No end is left in `ends`. Fails when out of memory.
+    pub(crate) fn new(
         alloc: Global,
-        spot: Spot,
-        ranges: &[PortRange],
-    ) -> Result<(), AllocError>
+        ends: &mut Ends,
+        field: Field,
+        lines: &[Line],
+        numbers: &[usize],
+    ) -> Result<Rows, AllocError>
+        ensures { IfOk result (AreRows ((length numbers.now + 63) / 64)) }
+    {
+        let steps = steps_of(alloc, ends, field, lines, numbers)?;
+        let rows = steps.len() + 1;
+        let blocks = numbers.len().div_ceil(64);
+        let mut layout = Layout::new(alloc, blocks, rows)?;
+        for block in 0..blocks {
+            let mut begins = vec![in alloc; false; rows]?;
+            for number in block_of(numbers, block) {
+                if let Some(line) = lines.get(*number) {
+                    note_line(&mut begins, &steps, field, line);
+                }
+            }
+            layout.push_block(&begins)?;
+        }
+        let words = BlockWords::new(alloc, layout)?;
+        Ok(Rows { steps, words })
+    }
+
+    /// Adds a line, which lets the numbers of these ranges pass.
+    pub(crate) fn add(&mut self, spot: Spot, ranges: &[PortRange])
         requires bit { spot.bit < 64 }
         requires block { spot.block < spot.blocks }
         requires rows { AreRows spot.blocks self.old }
-        ensures rows { OnOk result (AreRows spot.blocks self.new) }
+        ensures rows { AreRows spot.blocks self.new }
         ensures keeps { (block n i : ℕ) → LetsNumber self.old block n i → LetsNumber self.new block n i }
-        ensures lets { OnOk result ((n : ℕ) → n < 2 ^ 16 → in_ranges ranges.now n ≡ true
-            → LetsNumber self.new spot.block n spot.bit) }
+        ensures lets { (n : ℕ) → n < 2 ^ 16 → in_ranges ranges.now n ≡ true
+            → LetsNumber self.new spot.block n spot.bit }
     {
-        self.make(alloc, spot.blocks)?;
-        let at = (self.steps.len() + 1) * spot.block;
-        mark_ranges(&mut self.words, at, spot.bit, &self.steps, ranges);
-        Ok(())
+        for range in ranges {
+            let first = self.steps.cell_of(range.first);
+            let last = self.steps.cell_of(range.last);
+            self.words.mark(spot, first, last);
+        }
     }
 
-    /// The row of a number, if there are rows.
+    /// The row of a number, if there is one.
     #[inline(always)]
     pub(crate) fn row_of(&self, number: Option<u16>) -> Option<usize>
         ensures is { result ≡ row_of self.now number }
-        ensures within { IsRowOf self.now result }
+        ensures within { IfSome result (λ k. k < length self.now.steps.ports.items + 1) }
         ensures ranged { IfSome number (λ n. n < 2 ^ 16) }
     {
         let number = number?;
-        if self.words.is_empty() {
-            return None;
-        }
         Some(self.steps.cell_of(number))
-    }
-
-    /// Which of the 64 lines of a block let the numbers of a row pass; none where there is no row.
-    #[inline(always)]
-    pub(crate) fn word(&self, block: usize, row: Option<usize>) -> u64
-        requires within { IfSome row (λ k. row_count self.now * block + k < length self.now.words.items) }
-        ensures { IfSome row (λ k. (i : ℕ) → Has self.now.words.items (row_count self.now * block + k) i → bit_at result i ≡ 1) }
-    {
-        match row {
-            None => 0,
-            Some(row) => self.words[(self.steps.len() + 1) * block + row],
-        }
     }
 }

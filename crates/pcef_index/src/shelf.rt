@@ -1,6 +1,6 @@
 //! Indexes that tables of equal rules share.
 
-ghost use Rattle.std.specs.Prelude.{◌≡◌, ◌≤◌, ◌<◌, [], IfSome, length};
+ghost use Rattle.std.specs.Prelude.{map, ◌≡◌, ◌≤◌, ◌<◌, [], IfSome, length};
 ghost use Rattle.std.specs.Arc.{arc_value};
 ghost use Rattle.pcef_index.specs.Shelves.{most_shelved};
 
@@ -48,16 +48,20 @@ impl Model for IndexShelf {
     ghost invariant = { λ s. length s.indexes.items ≤ most_shelved };
 }
 
-/// The index of these rules, which have this fingerprint.
+/// An index of a table's rules, which have this fingerprint, for the table's session.
 fn equal_to<'a>(
     indexes: &'a [Shelved],
     fingerprint: u64,
-    sources: &[Source],
+    indexed: &Indexed,
 ) -> Option<&'a Arc<Index>>
-    ensures { IfSome result (λ i. arc_value i.now ≡ sources.now) }
+    ensures { IfSome result (λ i. arc_value i.now ≡ map (λ e. e.source) indexed.now.entries) }
 {
+    let sources = indexed.index().sources();
     for shelved in indexes {
-        if shelved.fingerprint == fingerprint && are_equal(shelved.index.sources(), sources) {
+        if shelved.fingerprint == fingerprint
+            && indexed.is_served_by(&shelved.index)
+            && are_equal(shelved.index.sources(), sources)
+        {
             return Some(&shelved.index);
         }
     }
@@ -130,9 +134,10 @@ impl IndexShelf {
         }
     }
 
-    /// Gives a table the index of another table whose rules are equal, or puts its own here, for others to share. A
-    /// full shelf drops the oldest index of those with the fewest owners. A table with few filters keeps its index,
-    /// which takes little memory, and so does one whose index was here before. When out of memory, nothing is shared.
+    /// Gives a table the index of another table whose rules are equal, and which was made for any session or for its own;
+    /// or puts its own here, for others to share. A full shelf drops the oldest index of those with the fewest owners. A
+    /// table with few filters keeps its index, which takes little memory, and so does one whose index was here before.
+    /// When out of memory, nothing is shared.
     pub fn share(&mut self, indexed: &mut Indexed)
         ensures { indexed.new ≡ indexed.old }
     {
@@ -140,7 +145,7 @@ impl IndexShelf {
             return;
         }
         let fingerprint = fingerprint(indexed.index().sources());
-        match equal_to(&self.indexes, fingerprint, indexed.index().sources()) {
+        match equal_to(&self.indexes, fingerprint, indexed) {
             Some(index) => indexed.share(index),
             None => self.put(indexed, fingerprint),
         }

@@ -1,7 +1,7 @@
 //! The two sides of filters and of packets: the remote one, and the user equipment's.
 
 ghost use Rattle.std.specs.Prelude.{◌≡◌};
-ghost use Rattle.pcef_index.specs.private.Sides.{addr_on, end_on, port_in, port_on};
+ghost use Rattle.pcef_index.specs.private.Sides.{addr_on, end_on, port_in, port_on, proto_number};
 
 use pcef_filter::{Direction, Endpoint, Filter};
 use pcef_packet::{Addr, Dir, Header, Ports};
@@ -43,6 +43,14 @@ fn port_in(side: Side, dir: Dir, ports: Ports) -> u16
         (Side::Remote, Dir::Up) | (Side::Local, Dir::Down) => ports.dst,
         (Side::Remote, Dir::Down) | (Side::Local, Dir::Up) => ports.src,
     }
+}
+
+/// A protocol as a number that is looked up as ports are. It is the high octet, so few intervals are compared.
+#[inline(always)]
+pub(crate) fn proto_number(proto: u8) -> u16
+    ensures { result ≡ proto_number proto }
+{
+    u16::from(proto) * 256
 }
 
 /// The port of a packet on a side, where it has ports.

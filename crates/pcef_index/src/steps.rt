@@ -1,15 +1,16 @@
 //! Steps: the ports at which the intervals begin that ranges make.
 
 ghost use Rattle.std.specs.Prelude.{◌≡◌, ◌≤◌, ◌<◌, ◌/◌, ◌^◌, IfOk, length};
+ghost use Rattle.pcef_index.specs.private.Bounds.{search};
 ghost use Rattle.pcef_index.specs.private.Starts.{ArePlaced, cell_at, cell_of, count_on, count_up};
 
 use std::alloc::{AllocError, Global};
 
 /// So many steps are compared one after the other.
-const MOST_COUNTED: usize = 16;
+const MOST_COUNTED: usize = 8;
 
-/// So many steps are passed over at once where the last of them is at or below a port.
-const STRIDE: usize = 16;
+/// So many steps of a high octet are compared one after the other; more are cut in half again and again.
+const MOST_IN_TURN: usize = 16;
 
 /// The ports where intervals begin, in ascending order, and where those of each high octet begin and end among them.
 #[derive(Drop)]
@@ -33,22 +34,36 @@ fn count_up(ports: &[u16], port: u16) -> usize
     ports.len()
 }
 
+/// The same of ports in ascending order, by halves.
+#[inline(never)]
+fn count_by_halves(ports: &[u16], port: u16) -> usize
+    ensures is { result ≡ search (length ports.now) ports.now port 0 (length ports.now) }
+    ensures within { result ≤ length ports.now }
+{
+    let mut from = 0;
+    let mut to = ports.len();
+    while from < to {
+        let middle = from + (to - from) / 2;
+        if ports[middle] <= port {
+            from = middle + 1;
+        } else {
+            to = middle;
+        }
+    }
+    from
+}
+
 /// The same of ports in ascending order, which may be many.
 #[inline(always)]
 fn count_on(ports: &[u16], port: u16) -> usize
     ensures is { result ≡ count_on port ports.now }
     ensures within { result ≤ length ports.now }
 {
-    let mut rest = ports;
-    let mut passed = 0;
-    while let Some(last) = rest.get(STRIDE - 1) {
-        if *last > port {
-            return passed + count_up(rest, port);
-        }
-        rest = &rest[STRIDE..];
-        passed += STRIDE;
+    if ports.len() > MOST_IN_TURN {
+        count_by_halves(ports, port)
+    } else {
+        count_up(ports, port)
     }
-    passed + count_up(rest, port)
 }
 
 /// How many of these ports, in ascending order, are of no higher octet than one, as far as 16 bits count them; those up to

@@ -22,6 +22,7 @@ use pcef_catalog::Listing;
 use pcef_index::Indexed;
 use pcef_journal::{Journal, Lanes, MAX_WORKERS};
 use pcef_model::{AttachFault, Entry, OpenFault, Profile, TriggerSet};
+use pcef_packet::Addr;
 use pcef_rule::{Kind, Sums};
 use pcef_usage::{CountedJournal, Usage};
 use std::alloc::{AllocError, Global};
@@ -105,12 +106,12 @@ fn open_bearers(alloc: Global, profile: &Profile) -> Result<Bearers, OpenFault>
 }
 
 /// The table of the first generation, which has no rules, with its index.
-fn first_table(alloc: Global) -> Result<Arc<Indexed>, AllocError>
+fn first_table(alloc: Global, ue: Addr) -> Result<Arc<Indexed>, AllocError>
     ensures number { IfOk result (λ t. (arc_value t).number ≡ 0) }
     ensures entries { IfOk result (λ t. (arc_value t).entries ≡ []) }
     ensures session { IfOk result (λ t. (arc_value t).session ≡ no_slots) }
 {
-    Ok(Arc::new(alloc, Indexed::empty(alloc, 0)?)?)
+    Ok(Arc::new(alloc, Indexed::empty(alloc, 0, ue)?)?)
 }
 
 impl SessionState {
@@ -130,7 +131,7 @@ impl SessionState {
             Err(fault) => return Err(fault),
         };
         let counted = CountedJournal::new(alloc);
-        let Ok(newest) = first_table(alloc) else {
+        let Ok(newest) = first_table(alloc, profile.ue) else {
             return Err(OpenFault::NoMemory);
         };
         Ok(SessionState {

@@ -8,6 +8,7 @@ mod flow;
 mod index;
 mod ipv6;
 mod later;
+mod other_session;
 mod packet;
 mod rule;
 mod shelf;

@@ -1,6 +1,7 @@
 -- The sieves of all kinds of packets.
-use Rattle.std.specs.Prelude.{◌≡◌, ◌≤◌, List, Option, length}
+use Rattle.std.specs.Prelude.{◌≤◌, List, Option, length}
 use Rattle.std.specs.Global.{Box}
+use Rattle.pcef_packet.specs.declared.header.Addr.{Addr}
 use Rattle.pcef_packet.specs.declared.header.Dir.{Dir}
 use Rattle.pcef_packet.specs.declared.header.Dir.TheVariants.{Up, Down}
 use Rattle.pcef_index.specs.declared.kinds.Class.{Class}
@@ -15,7 +16,7 @@ use Rattle.pcef_index.specs.declared.sieves.ByVersion.{ByVersion}
 use Rattle.pcef_index.specs.declared.sieves.Sieves.{Sieves}
 use Rattle.pcef_table.specs.declared.entry.Source.{Source}
 use Rattle.pcef_table.specs.Tables.{most_entries}
-use Rattle.pcef_index.specs.private.Lines.{lines_from}
+use Rattle.pcef_index.specs.private.Lines.{KeepFor, lines_from}
 use Rattle.pcef_index.specs.private.Sieves.{Serves}
 
 abbrev pub class_of : ByClass → Class → Option (Box Sieve)
@@ -45,8 +46,8 @@ ServeVersions lines dir s = (version : Version) → ServeClasses lines dir versi
 abbrev pub AreServed : List Line → Sieves → Type 0
 AreServed lines s = (dir : Dir) → ServeVersions lines dir (dir_of s dir)
 
--- the lines are those of some rules, and there is a sieve for each kind of packets
-pub record AreSievedOf (sources : List Source) (lines : List Line) (sieves : Sieves) : Type 0 where
+-- the lines are those of some rules that may fit the packets that are looked up, and there is a sieve for each kind
+pub record AreSievedOf (sources : List Source) (own : Option Addr) (lines : List Line) (sieves : Sieves) : Type 0 where
   pub few : length sources ≤ most_entries
-  pub lines_are : lines ≡ lines_from 0 sources
+  pub kept : KeepFor own (lines_from 0 sources) lines
   pub served : AreServed lines sieves

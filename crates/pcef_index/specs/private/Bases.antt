@@ -62,8 +62,21 @@ pub record AreCopies (sources : List Source) (places : List ℕ) (copies : List 
   pub long : length copies ≡ length places
   pub same : (i : ℕ) → i < length places → slice_get copies i ≡ slice_get sources (get_or places i 0)
 
+-- the rules of a part's base stand before a place only among so many first ones
+abbrev pub Reaches : Part → ℕ → ℕ → Type 0
+Reaches p reach place = (b k : ℕ) → reach ≤ b → place_in p b ≡ Some k → place ≤ k
+
+-- so it is at each place of a list
+abbrev pub AreReaches : Part → List ℕ → Type 0
+AreReaches p reaches = (place reach : ℕ) → slice_get reaches place ≡ Some reach → Reaches p reach place
+
 -- a place is the first of a part's where a rule fits a packet, or no rule at these fits
 abbrev pub IsFirstPlaced : List Offer → Addr → Header → List Source → Part → Option ℕ → Type 0
 IsFirstPlaced offers ue h sources p None = (k : ℕ) → HasPlace p k → fits_at offers ue h sources k ≡ false
 IsFirstPlaced offers ue h sources p (Some place) =
     (fits_at offers ue h sources place ≡ true) × ((k : ℕ) → HasPlace p k → fits_at offers ue h sources k ≡ true → place ≤ k)
+
+-- the same, or no rule among so many first ones of the base fits
+abbrev pub IsFirstWithin : ℕ → List Offer → Addr → Header → List Source → Part → Option ℕ → Type 0
+IsFirstWithin reach offers ue h sources p None = (b k : ℕ) → b < reach → place_in p b ≡ Some k → fits_at offers ue h sources k ≡ false
+IsFirstWithin reach offers ue h sources p (Some place) = IsFirstPlaced offers ue h sources p (Some place)

@@ -3,17 +3,23 @@ use Rattle.std.specs.Prelude.{ℕ, ◌<◌, ◌≤◌, ◌⊎◌, IfSome, List, 
 use Rattle.pcef_table.specs.declared.entry.Source.{Source}
 use Rattle.pcef_table.specs.Tables.{most_entries}
 use Rattle.pcef_index.specs.declared.based.Based.{Based}
+use Rattle.pcef_index.specs.declared.based.Newer.{Newer}
 use Rattle.pcef_index.specs.declared.part.Part.{Part}
-use Rattle.pcef_index.specs.private.Bases.{HasPlace, IsPart}
+use Rattle.pcef_index.specs.private.Bases.{AreReaches, HasPlace, IsPart}
 
-abbrev pub HasPlaceIn : Option Part → ℕ → Type 0
+abbrev pub HasPlaceIn : Option Newer → ℕ → Type 0
 HasPlaceIn None k = ⊥
-HasPlaceIn (Some p) k = HasPlace p k
+HasPlaceIn (Some n) k = HasPlace n.part k
+
+-- newer rules, of which it is known which older ones stand before them
+pub record IsNewer (sources : List Source) (older : Part) (n : Newer) : Type 0 where
+  pub part : IsPart sources n.part
+  pub reaches : AreReaches older n.reaches.items
 
 -- each rule stands in one of the parts
 pub record IsBased (sources : List Source) (b : Based) : Type 0 where
   pub older : IsPart sources b.older
-  pub newer : IfSome b.newer (IsPart sources)
+  pub newer : IfSome b.newer (IsNewer sources b.older)
   pub all : (k : ℕ) → k < length sources → HasPlace b.older k ⊎ HasPlaceIn b.newer k
 
 -- the rules are at most as many as a table has, and the parts are theirs, where there are any

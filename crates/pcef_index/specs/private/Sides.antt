@@ -1,5 +1,5 @@
 -- The two sides of filters and of packets.
-use Rattle.std.specs.Prelude.{ℕ, Option, Some, None}
+use Rattle.std.specs.Prelude.{ℕ, ◌*◌, Option, Some, None}
 use Rattle.pcef_packet.specs.declared.header.Addr.{Addr}
 use Rattle.pcef_packet.specs.declared.header.Dir.{Dir}
 use Rattle.pcef_packet.specs.declared.header.Header.{Header}
@@ -43,3 +43,7 @@ port_of side dir (Some ports) = Some (port_in side dir ports)
 -- the port of a packet on a side, where it has ports
 abbrev pub port_on : Side → Header → Option ℕ
 port_on side h = port_of side h.dir h.ports
+
+-- a protocol as a number that is looked up as ports are
+abbrev pub proto_number : ℕ → ℕ
+proto_number proto = proto * 256

@@ -1,5 +1,6 @@
 -- Steps, the ports where intervals begin: how many are at or below a port, where those of each high octet stand together.
-use Rattle.std.specs.Prelude.{ℕ, zero, suc, ◌+◌, ◌-◌, ◌/◌, ◌≡◌, ◌≤◌, ◌<◌, ◌∷◌, [], List, drop, get_or, length, nat_le, nat_lt, take, if◌then◌else◌}
+use Rattle.std.specs.Prelude.{ℕ, ◌+◌, ◌-◌, ◌/◌, ◌≡◌, ◌≤◌, ◌<◌, ◌∷◌, [], List, drop, get_or, length, nat_le, nat_lt, take, if◌then◌else◌}
+use Rattle.pcef_index.specs.private.Bounds.{search}
 
 -- the place of the first step of a high octet, or behind the last octet
 abbrev pub start : List ℕ → ℕ → ℕ
@@ -16,14 +17,9 @@ abbrev pub count_up : ℕ → List ℕ → ℕ
 count_up port [] = 0
 count_up port (step ∷ steps) = if nat_le step port then 1 + count_up port steps else 0
 
--- the same of steps in ascending order: sixteen are passed over at once where the last of them is at or below the port,
--- so many times at most
-abbrev pub count_over : ℕ → ℕ → List ℕ → ℕ
-count_over zero port steps = count_up port steps
-count_over (suc most) port steps = if nat_le (get_or steps 15 0) port then 16 + count_over most port (drop 16 steps) else count_up port steps
-
+-- the same of steps in ascending order: more than sixteen are searched by halves
 abbrev pub count_on : ℕ → List ℕ → ℕ
-count_on port steps = count_over (length steps / 16) port steps
+count_on port steps = if nat_lt 16 (length steps) then search (length steps) steps port 0 (length steps) else count_up port steps
 
 -- the steps before a high octet, and those of this octet that are at or below a port
 abbrev pub cell_at : List ℕ → List ℕ → ℕ → ℕ → ℕ

@@ -42,9 +42,14 @@ place_at lines n = option_map (λ l. l.place) (slice_get lines n)
 abbrev pub first_of : (Line → Bool) → List Line → List ℕ → Option ℕ
 first_of test lines numbers = option_and_then (place_at lines) (find (fits_at test lines) numbers)
 
+-- the place of the rule of the line whose number stands at place j, if it passes a test
+abbrev pub IsFitAt : (Line → Bool) → List Line → List ℕ → ℕ → Option ℕ → Type 0
+IsFitAt test lines numbers j None = passes_at (fits_at test lines) numbers j ≡ false
+IsFitAt test lines numbers j (Some place) =
+    (n : ℕ) × (slice_get numbers j ≡ Some n) × (fits_at test lines n ≡ true) × (place_at lines n ≡ Some place)
+
 -- the place of the rule of the first of the 64 numbered lines from one on that passes a test, or none
 abbrev pub IsFirstIn : (Line → Bool) → List Line → List ℕ → ℕ → Option ℕ → Type 0
 IsFirstIn test lines numbers from None = FailTo (fits_at test lines) numbers from 64
 IsFirstIn test lines numbers from (Some place) =
-    (i n : ℕ) × FailTo (fits_at test lines) numbers from i × (slice_get numbers (from + i) ≡ Some n)
-    × (fits_at test lines n ≡ true) × (place_at lines n ≡ Some place)
+    (i : ℕ) × FailTo (fits_at test lines) numbers from i × IsFitAt test lines numbers (from + i) (Some place)

@@ -130,7 +130,7 @@ fn asked_of(
     rules.push(rule).ok()?;
     let catalog = Catalog::new(alloc, rules).ok()?;
     let table = table_of_first(alloc, &catalog)?;
-    let indexed = Indexed::new(alloc, table, &catalog).ok()?;
+    let indexed = Indexed::new(alloc, table, &catalog, UE).ok()?;
     let mut cache = FlowCache::new(alloc, 4).ok()?;
     cache.follow(&catalog, indexed.table());
     asked_by(&mut cache, &indexed, &catalog, calls, packets)

@@ -43,8 +43,8 @@ fn judged_at_a_second_try(alloc: Global) -> Option<Option<Verdict>> {
 fn built_at_a_second_try<C: Offers>(alloc: Global, catalog: &C, table: &Table) -> Option<Index>
     ensures { IfSome result (λ i. i ≡ map (λ e. e.source) table.now.entries) }
 {
-    match Index::build(alloc, table, catalog) {
+    match Index::build(alloc, table, catalog, UE) {
         Ok(index) => Some(index),
-        Err(_) => Index::build(alloc, table, catalog).ok(),
+        Err(_) => Index::build(alloc, table, catalog, UE).ok(),
     }
 }

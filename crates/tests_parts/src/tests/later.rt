@@ -18,7 +18,7 @@ fn many<C: Offers>(alloc: Global, catalog: &C) -> Option<Indexed>
     ensures { IfSome result (λ i. IsTable (C.offers catalog.now) i.entries) }
 {
     let few = table_of(alloc, catalog, &[("a", 10, Gate::Enabled, 5, ALL)])?;
-    Indexed::new(alloc, padded(alloc, catalog, &few)?, catalog).ok()
+    Indexed::new(alloc, padded(alloc, catalog, &few)?, catalog, UE).ok()
 }
 
 /// The next table, with a rule more that goes before.

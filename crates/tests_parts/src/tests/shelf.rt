@@ -2,7 +2,7 @@
 //! shelf drops an index that nobody else owns when the next one is put there.
 
 use crate::tests::expect_equal;
-use crate::tests::tables::{ALL, empty_catalog, padded, table_of};
+use crate::tests::tables::{ALL, UE, empty_catalog, padded, table_of};
 use pcef_catalog::Catalog;
 use pcef_index::{IndexShelf, Indexed};
 use pcef_rule::Gate;
@@ -11,14 +11,14 @@ use std::alloc::Global;
 /// A table of one rule of one filter, with its index.
 fn narrow(alloc: Global, catalog: &Catalog) -> Option<Indexed> {
     let variants = [("a", 10, Gate::Enabled, 5, ALL)];
-    Indexed::new(alloc, table_of(alloc, catalog, &variants)?, catalog).ok()
+    Indexed::new(alloc, table_of(alloc, catalog, &variants)?, catalog, UE).ok()
 }
 
 /// A table of two rules with many filters, one of which has this precedence, with its index.
 fn wide(alloc: Global, catalog: &Catalog, precedence: u32) -> Option<Indexed> {
     let variants = [("a", precedence, Gate::Enabled, 5, ALL)];
     let few = table_of(alloc, catalog, &variants)?;
-    Indexed::new(alloc, padded(alloc, catalog, &few)?, catalog).ok()
+    Indexed::new(alloc, padded(alloc, catalog, &few)?, catalog, UE).ok()
 }
 
 /// How many indexes there are once a table shares its own.

@@ -1,10 +1,20 @@
-use Rattle.std.proofs.Common.{◌∙◌, ap}
-use Rattle.pcef_index.specs.private.Lines.{lines_from}
+use Rattle.std.proofs.Common.{◌∙◌, List, ap, find, refl}
+use Rattle.pcef_table.specs.declared.entry.Source.{Source}
+use Rattle.pcef_index.specs.declared.lines.Line.{Line}
+use Rattle.pcef_index.specs.private.Lines.{lines_from, standing_fits}
+use Rattle.pcef_index.proofs.Numbering.{place_of}
 use Rattle.pcef_index.proofs.Standing.{first_rule}
 use Rattle.pcef_index.proofs.base.Base.first_standing.Goals as goal
 
 pub returns : goal.returns
 returns g c =
-    first_rule c.args.places.now (g.C.Offers.offers c.args.catalog.now) c.args.ue.now c.args.header.now c.args.self.now c.deref.result.now c.first_place.result
-    (c.deref.ensures.value ∙ c.self.invariant.lines_are ∙ ap (lines_from 0) c.self.view_is)
-    c.first_place.ensures
+    let places = c.args.places.now in
+    let offers = g.C.Offers.offers c.args.catalog.now in
+    let ue = c.args.ue.now in
+    let h = c.args.header.now in
+    let test = standing_fits places offers ue h in
+    first_rule places offers ue h c.args.self.now (lines_from 0 c.args.self.now) c.first_place.result refl
+    (c.first_place.ensures
+    ∙ ap (λ (ls : List Line). place_of (find test ls)) c.deref-2.ensures.value
+    ∙ c.self.invariant.kept places offers ue h (c.is_looked_up.ensures c.if-not-is_looked_up.false)
+    ∙ ap (λ (ss : List Source). place_of (find test (lines_from 0 ss))) c.self.view_is)

@@ -13,5 +13,5 @@ returns c =
           (let none : length c.in_ok-older.rest.items ≡ 0 = (let e = eqb-true (vec_len c.in_ok-older.rest) 0 (sym c.is_empty.ensures ∙ w.if-is_empty.true) in omega (arith, e)) in
           one_part sources _ w.newer-is c.in_ok-older.ensures.part (none_left sources c.in_ok-older.older c.in_ok-older.rest.items none c.in_ok-older.ensures.rest))
       | else-is_empty+in_ok-new w ↦
-          two_parts sources _ w.in_ok-new.field-0 c.in_ok-older.rest.items w.newer-is c.in_ok-older.ensures.part c.in_ok-older.ensures.rest w.in_ok-new.ensures.part w.in_ok-new.ensures.all
+          two_parts sources _ w.in_ok-new.field-0 c.in_ok-older.rest.items w.newer-is c.in_ok-older.ensures.part c.in_ok-older.ensures.rest w.in_ok-new.ensures.newer w.in_ok-new.ensures.all
     ]

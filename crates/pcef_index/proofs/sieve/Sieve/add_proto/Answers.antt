@@ -1,21 +1,21 @@
 use Rattle.std.proofs.Common.{◌≡◌, ◌<◌, ◌∙◌, get_or, length, subst, arith}
 use Rattle.std.proofs.lemmas.List.{get_or_default}
-use Rattle.pcef_index.specs.declared.sieve.Free.{Free}
+use Rattle.pcef_index.specs.declared.free.Free.{Free}
 use Rattle.pcef_index.specs.private.Sieves.{looks_at_all}
-use Rattle.pcef_index.proofs.Keeping.{FreeStays, free_stays, header_stays, same_digits}
+use Rattle.pcef_index.proofs.Keeping.{FreeStays, free_stays, header_stays, same_addresses}
 use Rattle.pcef_index.proofs.sieve.Sieve.add_proto.Goals as goal
 
 pub returns-in-None-clause-keeps : goal.returns-in-None-clause-keeps
-returns-in-None-clause-keeps c block i h lets =
+returns-in-None-clause-keeps c block i ue h lets =
     let fs = c.args.self.now.free.items in
     let at = c.args.spot.block in
     let old = c.index_mut.result.now in
     let free : length fs ≡ c.args.spot.blocks = c.requires.shaped.free in
     let within : at < length fs = omega (arith, free) in
     let is : old ≡ get_or fs at looks_at_all = c.index_mut.ensures.value ∙ get_or_default fs at old looks_at_all within in
-    let more : Free = record { remote = old.remote; local = old.local; proto = c.set.new.word; remote_port = old.remote_port; local_port = old.local_port } in
-    let stays : FreeStays old more = record { remote = λ k has. has; local = λ k has. has; proto = c.set.ensures.keeps; remote_port = λ k has. has; local_port = λ k has. has } in
+    let more : Free = record { remote = old.remote; assigned = old.assigned; local = old.local; proto = c.set.new.word; remote_port = old.remote_port; local_port = old.local_port } in
+    let stays : FreeStays old more = record { remote = λ k has. has; assigned = λ k has. has; local = λ k has. has; proto = c.set.ensures.keeps; remote_port = λ k has. has; local_port = λ k has. has } in
     header_stays
-    (record { remote = same_digits c.args.self.now.remote; local = same_digits c.args.self.now.local; proto = λ b n k has. has; remote_port = λ b n k has. has; local_port = λ b n k has. has })
+    (record { remote = same_addresses c.args.self.now.remote; local = same_addresses c.args.self.now.local; proto = λ b n k has. has; remote_port = λ b n k has. has; local_port = λ b n k has. has })
     (free_stays fs at more block within (subst (λ (f : Free). FreeStays f more) is stays))
-    block h i lets
+    block ue h i lets
