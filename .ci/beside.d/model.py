@@ -4,6 +4,9 @@ import os
 import struct
 
 UP, DOWN = 0, 1
+UE4, UE6 = ipaddress.ip_address("10.0.0.2"), ipaddress.ip_address("2001:db8:aa:bb::2")  # the session's address
+NEAR = "2001:db8:aa:bb::/64"  # and its own network
+LISTS = [(8000 * n + 1, 8000 * n + 7000) for n in range(7)]  # a filter's port ranges but the last
 WITH_PORTS = (6, 17)  # of the sets' protocols
 
 
@@ -43,6 +46,14 @@ class Filter:
             # Addresses of the other version fit no network.
             return (int(place[0]), int(place[-1])) if place.version == ue.version else (1, 0)
         return (self.proto, *span(self.remote), *span(self.local), self.far, self.near)
+
+
+def installs(rules):
+    """The lines that install rules, each a precedence and a rule."""
+    for precedence, (name, filters) in rules:
+        yield (f'{{"do":"install","rule":{{"name":"{name}","precedence":{precedence},"filters":'
+               f'[{",".join(filter_.line() for filter_ in filters)}],"qci":9,'
+               '"arp":{"level":8,"capability":false,"vulnerability":true},"gate":"ENABLED"}}')
 
 
 class Packet:

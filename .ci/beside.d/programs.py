@@ -115,6 +115,25 @@ def instructions(words, toggle=None, stdin=None):
     return int(re.search(rb"Collected : (\d+)", ran.stderr).group(1))
 
 
+def instructions_in(words, crates, toggle):
+    """Those within a function that are of functions of some crates."""
+    path = f"{FOLDER}/callgrind.out"
+    run(["valgrind", "--tool=callgrind", f"--callgrind-out-file={path}", f"--toggle-collect={toggle}", *map(str, words)])
+    names, total, counts, is_call = {}, 0, False, False
+    with open(path, encoding="utf-8", errors="replace") as file:
+        for line in file:
+            named = re.match(r"(c?)fn=\((\d+)\)(?: (.*))?$", line)
+            if named:
+                names.setdefault(named[2], named[3])
+                counts = counts if named[1] else names[named[2]].split("::")[0] in crates
+            elif line.startswith("calls="):
+                is_call = True
+            elif re.match(r"[-+*\d]", line):
+                total += int(line.split()[1]) if counts and not is_call else 0
+                is_call = False
+    return total
+
+
 def instructions_each(words_of, few, many, each=1, **how):
     """Instructions of one of `many` turns over those of `few`, divided by what a turn has."""
     return (instructions(words_of(many), **how) - instructions(words_of(few), **how)) / (many - few) / each

@@ -12,10 +12,11 @@ import os
 import random
 import sys
 
+import bases
+import histories
 import model
-from model import UP, Filter, Table, write_set
+from model import LISTS, NEAR, UE4, UE6, UP, Filter, Table, installs, write_set
 
-UE4, UE6 = ipaddress.ip_address("10.0.0.2"), ipaddress.ip_address("2001:db8:aa:bb::2")
 RULES, FILTERS = 64, 16
 
 
@@ -300,9 +301,6 @@ def thinned(is_wide):
     return make
 
 
-NEAR = "2001:db8:aa:bb::/64"  # the session's own network
-
-
 def assigned_remote():
     """Filters whose remote side is `assigned`, and uplink packets to another address than the session's."""
     return (all_alike(lambda r, k: Filter(remote="assigned", local=NEAR, is_in=True)),
@@ -379,9 +377,6 @@ def just_missed(is_wide, is_spread, is_dense):
     return make
 
 
-LISTS = [(8000 * n + 1, 8000 * n + 7000) for n in range(7)]
-
-
 def searched(is_wide):
     """Sixteen rules of one filter each, which are searched without a sieve; each fails at its last port range."""
     def make():
@@ -391,13 +386,6 @@ def searched(is_wide):
         return rules, [Packet(remote="2001:db8:1::1" if is_wide else "198.51.100.7", far=60000 + n, near=63100 + n)
                        for n in range(64)]
     return make
-
-
-def installs(rules):
-    for precedence, (name, filters) in rules:
-        yield (f'{{"do":"install","rule":{{"name":"{name}","precedence":{precedence},"filters":'
-               f'[{",".join(filter_.line() for filter_ in filters)}],"qci":9,'
-               '"arp":{"level":8,"capability":false,"vulnerability":true},"gate":"ENABLED"}}')
 
 
 def gone(is_wide):
@@ -422,6 +410,76 @@ def gone(is_wide):
     return make
 
 
+def gone_and_newer(is_wide):
+    """A full table of rules for other sessions, four of which came since its base was made, and one that went since: it
+    fits all packets, and its lines stay in the base."""
+    def make():
+        remote, local = ("2001:db8:1::/127", NEAR) if is_wide else ("198.51.100.6/31", "10.0.0.0/8")
+        other = lambda r, k: f"2001:db8:aa:bc::{r:x}:{k:x}" if is_wide else f"10.{r + 1}.{k}.1"
+        lists = LISTS + [(56001, 65000)]
+        def rule(name, where):
+            return name, [Filter(proto=17, remote=remote, local=where(k), far=lists, near=lists, flow="bidirectional")
+                          for k in range(FILTERS)]
+        went = rule("a", lambda k: local)
+        stay = [rule(f"b{r:02}", lambda k, r=r: other(r, k)) for r in range(RULES - 1)]
+        lines = [*installs(enumerate([went, *stay], 1)), '{"do":"remove","name":"a"}']
+        return stay, [Packet(direction=UP, remote="2001:db8:1::1" if is_wide else "198.51.100.7", far=56100 + n,
+                             near=56300 + n) for n in range(64)], lines
+    return make
+
+
+AT = 0x64FE  # a port, of whose high octet all ports are steps
+PROTOS = [proto for proto in range(127) if proto not in (6, 17)]
+
+
+def for_others(is_wide, rules=RULES, fitting=(RULES * FILTERS - 1,), has_own=True, is_plain=False):
+    """Each block has one line for the session (`has_own`), which fails at its remote network, the last word that is looked
+    at. All others are for other sessions: a peer that knows the session leaves them out. Unless `is_plain`, they make steps
+    of all ports of the packets' high octet, of 125 protocols and, in version 6, of 2,000 networks a side. The lines of
+    `fitting` fit, with the last of their eight ranges a side. Networks end at other leading octets than the packets', so
+    the peer compares none."""
+    def make():
+        missed, fit = ("::/2", "8000::/1") if is_wide else ("0.0.0.0/2", "128.0.0.0/1")
+        head, own = int(ipaddress.ip_address("8101:db8::")), int(UE6) >> 64 << 64
+        place, proto = NEAR if is_wide else str(UE4), 17 if is_plain else 132
+        lists = [(100 + 10 * n, 105 + 10 * n) for n in range(7)] + [(20000, 30000)]
+        def make_filter(n):
+            if n in fitting:
+                return Filter(proto=proto, remote=fit, local=place, far=lists, near=lists)
+            if n % 64 == 63 and has_own:
+                return Filter(proto=proto, remote=missed, local=place)
+            first = 0x6400 + 16 * (n % 16)
+            ports = [] if is_plain else [(port, port) for port in range(first, first + 16, 2)]
+            remote = str(ipaddress.ip_address(head + 4096 + 2 * n)) if is_wide and not is_plain else missed
+            local = (str(ipaddress.ip_address(own + ((0 if is_plain else n) + 1 << 65))) if is_wide else
+                     f"10.0.{1 + n // 256}.{n % 256}")
+            return Filter(proto=proto if is_plain else PROTOS[n % 125], remote=remote, local=local, far=ports, near=ports)
+        table = [(f"r{r:02}", [make_filter(16 * r + k) for k in range(FILTERS)]) for r in range(rules)]
+        return table, [Packet(proto=proto, remote=str(ipaddress.ip_address(head + 1 + n)) if is_wide else
+                              f"198.51.100.{64 + n}", far=AT, near=AT) for n in range(64)]
+    return make
+
+
+def installed(make):
+    """The same, its rules installed one after the other: a base of the first ones, and one of those that came since."""
+    def made():
+        rules, packets = make()
+        return rules, packets, [*installs(enumerate(rules, 1))]
+    return made
+
+
+def most_searched(is_wide):
+    """Eight rules of one filter each, which are searched without a sieve; each fails at its last port range. No network and
+    no range ends in the packets' leading octets."""
+    def make():
+        remote, local = ("::/2", NEAR) if is_wide else ("128.0.0.0/1", "10.0.0.0/8")
+        rules = [(f"r{n}", [Filter(proto=17, remote=remote, local=local, far=LISTS + [(56001, 65000)],
+                                   near=LISTS + [(56001, 62000)])]) for n in range(8)]
+        return rules, [Packet(remote="2001:db8:1::1" if is_wide else "198.51.100.7", far=60000 + n, near=63100 + n)
+                       for n in range(64)]
+    return make
+
+
 SETS = {
     "half_networks": half_networks, "networks_29": networks_of(29), "networks_32": networks_of(32),
     "networks_17": networks_of(17), "meeting_ranges": meeting_ranges, "meeting_ends": meeting_ends,
@@ -443,8 +501,19 @@ SETS = {
     "just_missed": just_missed(True, False, True), "just_missed_narrow": just_missed(False, False, True),
     "just_missed_spread": just_missed(True, True, False), "just_missed_spread_narrow": just_missed(False, True, False),
     "searched": searched(True), "searched_narrow": searched(False), "gone": gone(True), "gone_narrow": gone(False),
+    "gone_and_newer": gone_and_newer(True), "gone_and_newer_narrow": gone_and_newer(False),
+    "most_searched": most_searched(True), "most_searched_narrow": most_searched(False),
+    **{name + end: make for end, is_wide in (("", True), ("_narrow", False)) for name, make in {
+        "for_others": for_others(is_wide), "for_others_unmatched": for_others(is_wide, fitting=()),
+        "for_others_plain": for_others(is_wide, is_plain=True), "none_own": for_others(is_wide, fitting=(), has_own=False),
+        "for_others_installed": installed(for_others(is_wide, fitting=(975, 1023))),
+        "none_own_installed": installed(for_others(is_wide, fitting=(), has_own=False)),
+        "ten_rules_installed": installed(for_others(is_wide, rules=10, fitting=(95, 159))),
+        "five_rules_installed": installed(for_others(is_wide, rules=5, fitting=(15, 79)))}.items()},
     **{f"local_host_{octet:02}": local_host_octet(octet) for octet in range(8, 16)},
     **{f"host_{octet:02}": host_octet(octet) for octet in range(16)},
+    **bases.SETS,
+    **histories.SETS,
 }
 
 
