@@ -10,12 +10,13 @@ use Rattle.pcef_packet.specs.declared.header.Header.{Header}
 use Rattle.pcef_index.specs.declared.addresses.Addresses.{Addresses}
 use Rattle.pcef_index.specs.declared.addresses.Addresses.TheVariants.{Narrow, Wide}
 use Rattle.pcef_index.specs.declared.addresses.Sought.{Sought}
+use Rattle.pcef_index.specs.declared.addresses.Sought.TheVariants as sought
 use Rattle.pcef_index.specs.declared.lines.Line.{Line}
 use Rattle.pcef_index.specs.declared.rows.Rows.{Rows}
 use Rattle.pcef_index.specs.declared.sides.Side.TheVariants.{Remote, Local}
 use Rattle.pcef_index.specs.declared.sieve.Sieve.{Sieve}
 use Rattle.pcef_index.specs.declared.sieving.Probe.{Probe}
-use Rattle.pcef_index.specs.private.Addresses.{AreAddresses, HasBlock, sought_of}
+use Rattle.pcef_index.specs.private.Addresses.{AreAddresses, HasBlock, IsSought, sought_of}
 use Rattle.pcef_index.specs.private.Blocks.{HasWord}
 use Rattle.pcef_index.specs.private.Lines.{line_fits}
 use Rattle.pcef_index.specs.private.Nets.{net_row}
@@ -37,6 +38,12 @@ has_block blocks block (Wide nets) (V6 n) are less =
     let within = bound_within nets.bounds.ends.items n in
     has_word nets.words blocks block (net_row nets n) are.words less (omega (arith, rows, within))
 
+sought_block : (blocks block : ℕ) (a : Addresses) (x : Addr) (s : Sought) → AreAddresses blocks a → block < blocks → IsSought a x s → HasBlock a block s
+sought_block blocks block a x (sought.Narrow places) are less is = subst (λ (s : Sought). HasBlock a block s) (sym is) (has_block blocks block a x are less)
+sought_block blocks block a x (sought.Wide row) are less is = subst (λ (s : Sought). HasBlock a block s) (sym is) (has_block blocks block a x are less)
+sought_block blocks block (Narrow digits) x sought.Other are less is = tt
+sought_block blocks block (Wide nets) x sought.Other are less is = tt
+
 has_row : (blocks block : ℕ) (r : Rows) (row : Option ℕ) → AreRows blocks r → block < blocks → IfSome row (λ k. k < length r.steps.ports.items + 1) → IfSome row (HasWord r.words block)
 has_row blocks block r None are less within = tt
 has_row blocks block r (Some k) are less within =
@@ -45,8 +52,8 @@ has_row blocks block r (Some k) are less within =
 
 pub has_words : (s : Sieve) (ue : Addr) (h : Header) (p : Probe) (blocks block : ℕ) → IsShaped blocks s → block < blocks → IsProbe s ue h p → AreWithin s p → HasWords s block p
 has_words s ue h p blocks block shaped less is within = record {
-  remote = subst (λ (x : Sought). HasBlock s.remote block x) (sym is.remote) (has_block blocks block s.remote (addr_on Remote h) shaped.remote less);
-  local = subst (λ (x : Sought). HasBlock s.local block x) (sym is.local) (has_block blocks block s.local (addr_on Local h) shaped.local less);
+  remote = sought_block blocks block s.remote (addr_on Remote h) p.remote shaped.remote less is.remote;
+  local = sought_block blocks block s.local (addr_on Local h) p.local shaped.local less is.local;
   proto = has_row blocks block s.proto p.proto shaped.proto less within.proto;
   remote_port = has_row blocks block s.remote_port p.remote_port shaped.remote_port less within.remote_port;
   local_port = has_row blocks block s.local_port p.local_port shaped.local_port less within.local_port;

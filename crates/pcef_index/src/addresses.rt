@@ -5,7 +5,7 @@ ghost use Rattle.std.specs.Int.{bit_at};
 ghost use Rattle.pcef_packet.specs.Addresses.{agrees_in};
 ghost use Rattle.pcef_packet.specs.declared.header.Addr.{Addr};
 ghost use Rattle.pcef_packet.specs.declared.header.Addr.TheVariants as Addr;
-ghost use Rattle.pcef_index.specs.private.Addresses.{AreAddresses, HasBlock, LetsAddr, sought_of, version_in};
+ghost use Rattle.pcef_index.specs.private.Addresses.{AreAddresses, HasBlock, IsSought, LetsAddr, version_in};
 ghost use Rattle.pcef_index.specs.private.Digits.{AreDigits, LetsDigits};
 ghost use Rattle.pcef_index.specs.private.Kinds.{version_of};
 ghost use Rattle.pcef_index.specs.private.Nets.{AreNets, LetsNet};
@@ -38,7 +38,7 @@ pub(crate) enum Sought {
     Narrow([usize; 8]),
     /// The row of one of version 6.
     Wide(usize),
-    /// Of another version than the lines'.
+    /// One that no line looks at: all let it pass.
     Other,
 }
 
@@ -138,20 +138,24 @@ impl Addresses {
     /// An address as it is looked up.
     #[inline(always)]
     pub(crate) fn sought(&self, addr: Addr) -> Sought
-        ensures { result ≡ sought_of self.now addr }
+        ensures { IsSought self.now addr result }
     {
         match (self, addr) {
-            (Addresses::Narrow(_), Addr::V4(number)) => Sought::Narrow(places_of(number)),
-            (Addresses::Wide(nets), Addr::V6(number)) => Sought::Wide(nets.row_of(number)),
+            (Addresses::Narrow(digits), Addr::V4(number)) if !digits.is_empty() => {
+                Sought::Narrow(places_of(number))
+            }
+            (Addresses::Wide(nets), Addr::V6(number)) if !nets.is_empty() => {
+                Sought::Wide(nets.row_of(number))
+            }
             _ => Sought::Other,
         }
     }
 
-    /// Which of the 64 lines of a block let an address pass; all where it isn't of the lines' version.
+    /// Which of the 64 lines of a block let an address pass; all where no line looks at it.
     #[inline(always)]
     pub(crate) fn word(&self, block: usize, sought: Sought) -> u64
         requires { HasBlock self.now block sought }
-        ensures { (i : ℕ) (a : Addr) → i < 64 → sought ≡ sought_of self.now a
+        ensures { (i : ℕ) (a : Addr) → i < 64 → IsSought self.now a sought
             → (version_of a ≡ version_in self.now → LetsAddr self.now block a i) → bit_at result i ≡ 1 }
     {
         match (self, sought) {

@@ -21,6 +21,9 @@ const MOST_NEWER: usize = 64;
 /// The most rules of an older base that went since, where none came. Their lines make intervals and words to look at.
 const MOST_GONE: usize = 3;
 
+/// The same where rules came, so that both bases are asked.
+const MOST_GONE_BESIDE: usize = 1;
+
 /// The rules of a table that came since its older base was made.
 #[derive(Drop)]
 pub(crate) struct Newer {
@@ -71,10 +74,13 @@ fn lines_at(sources: &[Source], places: &[u8], ue: Addr) -> usize {
     count
 }
 
-/// How many rules of an older base may be gone beside rules at some places that came since: where both bases are asked,
-/// none.
+/// How many rules of an older base may be gone beside rules at some places that came since.
 fn most_gone(rest: &[u8]) -> usize {
-    if rest.is_empty() { MOST_GONE } else { 0 }
+    if rest.is_empty() {
+        MOST_GONE
+    } else {
+        MOST_GONE_BESIDE
+    }
 }
 
 /// The lesser of two places, where there are any.

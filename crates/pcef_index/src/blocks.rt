@@ -45,11 +45,12 @@ impl Layout {
         ensures laid { OnOk result ((blocks : ℕ) → IsLaid blocks self.old → IsLaid (blocks + 1) self.new) }
         ensures rows { self.new.rows ≡ self.old.rows }
     {
+        self.places.reserve(self.rows)?;
         for row in 0..self.rows {
             if row < begins.len() && begins[row] {
                 self.next = self.next.saturating_add(1);
             }
-            self.places.push(self.next)?;
+            self.places.push_reserved(self.next);
         }
         self.next = self.next.saturating_add(1);
         Ok(())

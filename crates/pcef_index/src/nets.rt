@@ -96,6 +96,12 @@ impl Nets {
         Ok(Nets { bounds, words })
     }
 
+    /// Whether no line has a network.
+    #[inline(always)]
+    pub(crate) fn is_empty(&self) -> bool {
+        self.bounds.len() == 0
+    }
+
     /// Adds a line, which lets the addresses pass that agree with a number above some low bits.
     pub(crate) fn add(&mut self, spot: Spot, number: u128, loose: u8)
         requires bit { spot.bit < 64 }

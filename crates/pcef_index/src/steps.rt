@@ -90,10 +90,10 @@ fn starts_of(alloc: Global, ports: &[u16]) -> Result<Vec<u16>, AllocError>
     let mut starts = Vec::with_capacity(alloc, 257)?;
     let mut next = 0u16;
     for octet in 0..=u8::MAX {
-        starts.push(next)?;
+        starts.push_reserved(next);
         next = end_of(ports, next, octet);
     }
-    starts.push(next)?;
+    starts.push_reserved(next);
     Ok(starts)
 }
 

@@ -1,5 +1,5 @@
 -- Which lines let an address of a version pass.
-use Rattle.std.specs.Prelude.{ℕ, ◌+◌, ◌*◌, ◌≤◌, ◌<◌, length, ⊤}
+use Rattle.std.specs.Prelude.{ℕ, ◌+◌, ◌*◌, ◌≡◌, ◌≤◌, ◌<◌, length, ⊤}
 use Rattle.pcef_packet.specs.declared.header.Addr.{Addr}
 use Rattle.pcef_packet.specs.declared.header.Addr.TheVariants as addr
 use Rattle.pcef_index.specs.declared.addresses.Addresses.{Addresses}
@@ -29,12 +29,18 @@ LetsAddr (Narrow digits) block (addr.V6 n) i = ⊥
 LetsAddr (Wide nets) block (addr.V4 n) i = ⊥
 LetsAddr (Wide nets) block (addr.V6 n) i = LetsNet nets block n i
 
--- an address as it is looked up
+-- where an address of the lines' version is looked up
 abbrev pub sought_of : Addresses → Addr → Sought
 sought_of (Narrow digits) (addr.V4 n) = sought.Narrow (digit_places n)
 sought_of (Narrow digits) (addr.V6 n) = sought.Other
 sought_of (Wide nets) (addr.V4 n) = sought.Other
 sought_of (Wide nets) (addr.V6 n) = sought.Wide (net_row nets n)
+
+-- an address is looked up there, or not at all
+abbrev pub IsSought : Addresses → Addr → Sought → Type 0
+IsSought a x (sought.Narrow places) = sought.Narrow places ≡ sought_of a x
+IsSought a x (sought.Wide row) = sought.Wide row ≡ sought_of a x
+IsSought a x sought.Other = ⊤
 
 -- there are words of a block for what is looked up, or none at all
 abbrev pub HasBlock : Addresses → ℕ → Sought → Type 0

@@ -16,7 +16,7 @@ use Rattle.std.specs.Global.{Box}
 use Rattle.pcef_index.specs.declared.sieve.Sieve.{Sieve}
 use Rattle.pcef_index.specs.declared.sieving.Numbers.{Numbers}
 use Rattle.pcef_index.specs.declared.sieving.Probe.{Probe}
-use Rattle.pcef_index.specs.private.Addresses.{AreAddresses, HasBlock, LetsAddr, sought_of, version_in}
+use Rattle.pcef_index.specs.private.Addresses.{AreAddresses, HasBlock, IsSought, LetsAddr, version_in}
 use Rattle.pcef_index.specs.private.Blocks.{HasWord}
 use Rattle.pcef_index.specs.private.Kinds.{kind_of, version_of}
 use Rattle.pcef_index.specs.private.Lines.{line_fits, standing_fits}
@@ -117,9 +117,9 @@ pub record AreNumbers (h : Header) (n : Numbers) : Type 0 where
 -- what a sieve looks up of a session's packet
 pub record IsProbe (s : Sieve) (ue : Addr) (h : Header) (p : Probe) : Type 0 where
   pub ranged : IsRanged h
-  pub remote : p.remote ≡ sought_of s.remote (addr_on Remote h)
+  pub remote : IsSought s.remote (addr_on Remote h) p.remote
   pub assigned : is_assigned (addr_on Remote h) ue ≡ true → p.assigned ≡ 18446744073709551615
-  pub local : p.local ≡ sought_of s.local (addr_on Local h)
+  pub local : IsSought s.local (addr_on Local h) p.local
   pub proto : p.proto ≡ row_of s.proto (Some (proto_number h.proto))
   pub remote_port : p.remote_port ≡ row_of s.remote_port (port_on Remote h)
   pub local_port : p.local_port ≡ row_of s.local_port (port_on Local h)
