@@ -1,2 +1,4 @@
+pub mod Fusing
+pub mod Progressing
 pub mod Readings
 pub mod Writing

@@ -7,7 +7,7 @@ ghost use Rattle.clap.specs.declared.error.kind.ErrorKind.TheVariants.{OutOfMemo
 ghost use Rattle.pcef_capture_script.specs.CommandLine.{ArePackets, AreUsers, IsRequest, batch_rule, command_line, file_rule, gtp_rule, line_to_batch, line_to_gtp, line_to_pad, line_to_sessions, line_to_teid, line_to_times, line_to_ue, line_to_workers, pad_rule, sessions_rule, teid_rule, times_rule, ue_rule, workers_rule};
 
 use clap::{Arg, ArgAction, ArgMatches, Command, Error, value_parser};
-use pcef_output::VERSION;
+use pcef_base::VERSION;
 use pcef_packet::Addr;
 use std::alloc::{AllocError, Global};
 

@@ -2,7 +2,7 @@
 
 use crate::asked::is_help;
 use pcef_explain::read_text;
-use pcef_program::words::paths_of;
+use pcef_run::words::paths_of;
 use std::alloc::{AllocError, Global};
 use std::env::{Env, FillError};
 use std::io::{self, ErrorKind};

@@ -26,12 +26,12 @@ use crate::capture::sessions::Sessions;
 use crate::capture::stopped::Stopped;
 use crate::capture::taking::{Output, Taking};
 use crate::command_line::{gather, refuse, refuse_usage, report_no_memory};
+use pcef_base::{Fused, Progress, Watched};
 use pcef_capture_file::CaptureFault;
 use pcef_capture_script::{
     Counts as ScriptCounts, End, Options, Packets, Plan, Request, Turn, Users, parse_options,
     write_capture,
 };
-use pcef_output::{Fused, Progress, Watched};
 use pcef_packet::Addr;
 use std::fs::{self, File};
 use std::io::{self, BufWriter, Read, Write};

@@ -16,10 +16,10 @@ use crate::command_line::{
     gather, or_no_memory, print_read_fault, print_write_fault, refuse, refuse_usage,
     report_no_memory,
 };
+use pcef_base::Fused;
 use pcef_built_in::ShapedCatalog;
 use pcef_explain::read_text;
 use pcef_model::Profile;
-use pcef_output::Fused;
 use pcef_profile::{ReadProfileFault, explain, read_profile};
 use pcef_script::{FindFault, Finding, find};
 use std::fs;

@@ -12,7 +12,7 @@ use crate::asked::{Call, PAGE};
 use crate::command_line::{gather, or_no_memory, refuse, refuse_usage};
 use crate::page::end::End;
 use crate::page::options::{Format, Options, parse_options};
-use pcef_output::Fused;
+use pcef_base::Fused;
 use pcef_page::{
     Fault, Input, Labeled, Stamp, Subject, html_page, metrics_text, read, write_table,
 };

@@ -9,15 +9,14 @@ ghost use Rattle.pcef_built_in.specs.BuiltIn.{built_in_offers, dns_shape, expedi
 
 use crate::arguments::{profiles_of, words};
 use crate::command_line::report_no_memory;
+use pcef_base::Fused;
 use pcef_built_in::{
     dns_properties, dns_shape, expedited_properties, expedited_shape, is_dns, is_expedited,
     is_remaining, remaining_properties, remaining_shape,
 };
 use pcef_catalog::{Catalog, Detect, Predefined};
-use pcef_output::Fused;
 use pcef_packet::Header;
-use pcef_program::{Arguments, Environment, Host, Shown, run_program, shown_by};
-use pcef_run::{Storing, Taken};
+use pcef_run::{Arguments, Environment, Host, Shown, Storing, Taken, run_program, shown_by};
 use pcef_trigger::{Outlet, ReportKind, Reporter};
 use std::alloc::AllocError;
 use std::io::{self, BufWriter, ErrorKind, Write};

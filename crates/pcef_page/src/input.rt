@@ -157,23 +157,14 @@ fn input_of_session<'a>(
     name: &'a str,
 ) -> Result<Input, Fault<'a>> {
     let mut times = SessionTimes::open(rt, sources.times);
-    let OneSession {
-        lines,
-        answers,
-        first,
-        address,
-    } = session_in(rt, sources, name, &mut times)?;
-    let figures = collect_figures(rt, sources, &lines, &answers)?;
-    let stamps = times.stamps_from(first)?;
+    let session = session_in(rt, sources, name, &mut times)?;
+    let figures = collect_figures(rt, sources, &session.lines, &session.answers)?;
+    let stamps = times.stamps_from(session.first)?;
     let profile = profile_address(rt, sources)?;
     Ok(Input {
         figures,
         stamps,
-        address: if address.is_empty() {
-            profile
-        } else {
-            Some(address)
-        },
+        address: session.address_or(profile),
     })
 }
 

@@ -1,7 +1,7 @@
 //! Metrics: OpenMetrics text (version 1.0.0), or the text format of Prometheus (version 0.0.4).
 
 ghost use Rattle.std.specs.Prelude.{◌≡◌, ◌++◌, OnOk, string_bytes};
-ghost use Rattle.pcef_page.specs.Labels.{label_of};
+ghost use Rattle.pcef_page.specs.Labels.{label_character, label_of};
 
 use crate::keys::{Key, events_of, keys_of};
 use crate::names::ByName;
@@ -10,18 +10,25 @@ use crate::stamps::push_time;
 use crate::{Count, Figures, Rates, Sums, Verdict, octets_by_key, sum_of, sums_by_rule};
 use std::alloc::{AllocError, Global};
 
+/// Adds a character of the value of a label, escaped where it can't stand there as it is.
+fn push_character(text: &mut String, character: char) -> Result<(), AllocError>
+    ensures { OnOk result (string_bytes text.new ≡ string_bytes text.old ++ label_character character) }
+{
+    match character {
+        '"' => text.push_str("\\\""),
+        '\\' => text.push_str("\\\\"),
+        '\n' => text.push_str("\\n"),
+        _ => text.push(character),
+    }
+}
+
 /// Adds the value of a label: a quotation mark, a backslash and a line feed are escaped, and other characters stand as
 /// they are.
 pub(crate) fn push_label(text: &mut String, value: &str) -> Result<(), AllocError>
     ensures { OnOk result (string_bytes text.new ≡ string_bytes text.old ++ label_of value.now) }
 {
     for character in value.chars() {
-        match character {
-            '"' => text.push_str("\\\"")?,
-            '\\' => text.push_str("\\\\")?,
-            '\n' => text.push_str("\\n")?,
-            _ => text.push(character)?,
-        }
+        push_character(text, character)?;
     }
     Ok(())
 }

@@ -103,7 +103,6 @@ fn opened(alloc: Global, line: &[u8]) -> Result<Option<String>, AllocError> {
 }
 
 /// The last session of a name: its lines and answers, as of a session alone.
-#[derive(Drop)]
 pub(crate) struct OneSession {
     /// Its lines, from its `open` on.
     pub lines: Vec<u8>,
@@ -113,6 +112,35 @@ pub(crate) struct OneSession {
     pub first: u64,
     /// The address that its `open` gave, or an empty text.
     pub address: String,
+}
+
+// Written out, so that an owner proves one call on each return path.
+impl Drop for OneSession {
+    fn drop(self) {
+        let OneSession {
+            lines: _,
+            answers: _,
+            first: _,
+            address: _,
+        } = self;
+    }
+}
+
+impl OneSession {
+    /// The address that its `open` gave, or this one where it gave none.
+    pub(crate) fn address_or(self, other: Option<String>) -> Option<String> {
+        let OneSession {
+            lines: _,
+            answers: _,
+            first: _,
+            address,
+        } = self;
+        if address.is_empty() {
+            other
+        } else {
+            Some(address)
+        }
+    }
 }
 
 /// The answer to an `open` line that was done.

@@ -5,13 +5,24 @@ use crate::source::FileLines;
 use crate::{Stamp, TimesFault, is_take, stamp_of};
 
 /// The times of the packets of a session, which are read beside the lines of all sessions.
-#[derive(Drop)]
 pub(crate) struct SessionTimes<'a> {
     file: &'a str,
     /// What is left of the file, or none where no times are wanted or a fault was met.
     left: Option<FileLines>,
     stamps: Vec<Stamp>,
     fault: Option<Fault<'a>>,
+}
+
+// Written out, so that an owner proves one call on each return path.
+impl Drop for SessionTimes<'_> {
+    fn drop(self) {
+        let SessionTimes {
+            file: _,
+            left: _,
+            stamps: _,
+            fault: _,
+        } = self;
+    }
 }
 
 impl<'a> SessionTimes<'a> {

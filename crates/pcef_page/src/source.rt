@@ -1,7 +1,7 @@
 //! The files that are read.
 
 use crate::Watch;
-use pcef_output::{Progress, Watched};
+use pcef_base::{Progress, Watched};
 use std::fs::File;
 use std::io::{self, BufRead, BufReader, Read};
 use std::rt::Stdin;
@@ -46,12 +46,22 @@ impl Source {
 }
 
 /// The lines of a file, which are read one by one.
-#[derive(Drop)]
 pub(crate) struct FileLines {
     reader: BufReader<Source>,
     line: Vec<u8>,
     /// How many lines were read.
     number: u64,
+}
+
+// Written out, so that an owner proves one call on each return path.
+impl Drop for FileLines {
+    fn drop(self) {
+        let FileLines {
+            reader: _,
+            line: _,
+            number: _,
+        } = self;
+    }
 }
 
 impl FileLines {

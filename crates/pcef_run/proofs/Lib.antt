@@ -1,9 +1,15 @@
+pub mod Endings
+pub mod Granted
 pub mod KeyLines
 pub mod Obeyings
+pub mod Opened
 pub mod OrderLines
 pub mod PlanInputs
 pub mod PlanLines
 pub mod PlannedArrivals
 pub mod PoolAnswers
+pub mod PoolProfiles
+pub mod RunEnds
 pub mod RunFaults
 pub mod Splits
+pub mod Tellings

@@ -5,8 +5,8 @@ use Rattle.std.specs.Io.KnownBytes.{Appends, Keeps}
 use Rattle.std.proofs.KnownBytes.{Appends-kept, Appends-trans}
 use Rattle.pcef_rule.specs.declared.quantity.Sums.{Sums}
 use Rattle.pcef_script.specs.ScriptLines.{AppendsFront}
-use Rattle.pcef_pooled.specs.Granting.{PooledModel, granted_to}
-use Rattle.pcef_pooled.specs.Opening.{Asked}
+use Rattle.pcef_run.specs.Granting.{PooledModel, granted_to}
+use Rattle.pcef_run.specs.Opening.{Asked}
 use Rattle.pcef_run.specs.PoolRuns.{AnswersEach, AnswersAll, AnswersFirst, AnswersOrder, EndsOrders, OpenedOn, RunsPool, StopsAtOrder, StopsInOrders, StopsText, WritesOrder, WritesOrders, granted_text}
 use Rattle.pcef_run.specs.declared.pool_end.PoolEnd.{PoolEnd}
 use Rattle.pcef_run.specs.declared.pool_end.PoolEnd.TheVariants as end

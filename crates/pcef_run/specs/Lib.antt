@@ -1,8 +1,17 @@
+pub mod EndWriting
+pub mod Ends
+pub mod Granting
 pub mod Inputs
+pub mod Opening
 pub mod Orders
+pub mod PlanRuns
 pub mod Plans
+pub mod PoolEnds
 pub mod PoolRuns
+pub mod Programs
 pub mod Reasons
 pub mod Reporters
 pub mod Runs
+pub mod Showing
 pub mod Summaries
+pub mod Words

@@ -7,8 +7,8 @@ use Rattle.pcef_model.specs.declared.answer.Refusal.{Refusal}
 use Rattle.pcef_model.specs.declared.answer.Refusal.TheVariants.{NoMemory}
 use Rattle.pcef_answer.specs.StepAnswers.{command_text}
 use Rattle.pcef_script.specs.ScriptLines.{AppendsFront}
-use Rattle.pcef_pooled.specs.Granting.{AnswersAt, KeepsOthers, PooledModel, granted_to, settings_of}
-use Rattle.pcef_pooled.specs.Opening.{AreOpened, Asked, OpensOn}
+use Rattle.pcef_run.specs.Granting.{AnswersAt, KeepsOthers, PooledModel, granted_to, settings_of}
+use Rattle.pcef_run.specs.Opening.{AreOpened, Asked, OpensOn}
 use Rattle.pcef_run.specs.declared.pool_end.PoolEnd.{PoolEnd}
 use Rattle.pcef_run.specs.declared.pool_end.PoolEnd.TheVariants as end
 use Rattle.pcef_run.specs.declared.order.Order.{Order}

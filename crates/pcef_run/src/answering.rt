@@ -6,9 +6,9 @@ ghost use Rattle.pcef_run.specs.PoolRuns.{AnswersOrder, AreFor, EndsOrders, Stop
 
 use crate::order::Order;
 use crate::pool_end::PoolEnd;
+use crate::pooled::Pooled;
 use pcef_answer::command_answer;
 use pcef_model::Refusal;
-use pcef_pooled::Pooled;
 use pcef_rule::Sums;
 use pcef_script::put_all;
 use pcef_share::Pooling;

@@ -1,6 +1,6 @@
 //! Why sessions on a pool don't answer all orders.
 
-use pcef_pooled::PooledFault;
+use crate::pooled_fault::PooledFault;
 use thiserror::Error;
 
 /// Why sessions on a pool don't answer all orders.

@@ -1,10 +1,11 @@
-//! Sessions from their opening to their end by their public calls, answers as texts, and the closures of rules. The
-//! programs themselves are tested as they are built, in `tests/` beside the crates.
+//! Sessions from their opening to their end by their public calls, their renewals, answers as texts, and the closures of
+//! rules. The programs themselves are tested as they are built, in `tests/` beside the crates.
 
 mod answer;
 mod catalog_session;
 mod closures;
 mod finishing;
+mod renewal;
 mod scripts;
 
 use pcef_model::{Command, Level};

@@ -2,7 +2,7 @@
 
 use crate::asked::CHECK;
 use clap::{Arg, ArgAction, Command, Error};
-use pcef_output::VERSION;
+use pcef_base::VERSION;
 use std::alloc::Global;
 
 /// The options of the program.

@@ -7,7 +7,7 @@ ghost use Rattle.pcef_cli.specs.Statuses.{IsStatusDue};
 use crate::command_line::faults::print_write_fault;
 use clap::Error;
 use clap::error::ErrorKind;
-use pcef_output::VERSION;
+use pcef_base::VERSION;
 use std::io;
 
 /// Reports `want of memory` on standard error, and returns its exit status. A failing write changes nothing.

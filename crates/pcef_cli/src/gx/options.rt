@@ -2,7 +2,7 @@
 
 use crate::asked::GX;
 use clap::{Arg, ArgAction, ArgMatches, Command, Error, value_parser};
-use pcef_output::VERSION;
+use pcef_base::VERSION;
 use std::alloc::{AllocError, Global};
 
 /// Which sessions there are.

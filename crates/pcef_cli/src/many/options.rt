@@ -3,7 +3,7 @@
 use crate::asked::MANY;
 use crate::many::keeping::Keeping;
 use clap::{Arg, ArgAction, ArgMatches, Command, Error, value_parser};
-use pcef_output::VERSION;
+use pcef_base::VERSION;
 use std::alloc::{AllocError, Global};
 
 /// What the program is asked for.

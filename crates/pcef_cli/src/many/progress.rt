@@ -1,6 +1,6 @@
 //! How far standard input is read, on a terminal.
 
-use pcef_output::{Progress, Watched};
+use pcef_base::{Progress, Watched};
 use std::fs;
 use std::rt::Stdin;
 

@@ -3,9 +3,9 @@
 use crate::many::end::End;
 use crate::many::progress::watched_input;
 use crate::many::watched::{Notes, Watched};
+use pcef_base::Fused;
 use pcef_built_in::ShapedCatalog;
 use pcef_model::Profile;
-use pcef_output::Fused;
 use pcef_script::ScriptFault;
 use pcef_sessions::{serve, serve_frames};
 use pcef_shards::{Ended, Keys, Outlet, Ran, serve_in_threads};

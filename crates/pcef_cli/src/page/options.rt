@@ -2,7 +2,7 @@
 
 use crate::asked::PAGE;
 use clap::{Arg, ArgAction, ArgMatches, Command, Error};
-use pcef_output::VERSION;
+use pcef_base::VERSION;
 use pcef_page::Sources;
 use std::alloc::{AllocError, Global};
 

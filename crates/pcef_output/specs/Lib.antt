@@ -1,2 +1,0 @@
-pub mod Fusing
-pub mod Progressing

@@ -1,2 +1,0 @@
-pub mod Granted
-pub mod Opened

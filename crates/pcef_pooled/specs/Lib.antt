@@ -1,2 +1,0 @@
-pub mod Granting
-pub mod Opening

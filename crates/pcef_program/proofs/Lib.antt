@@ -1,4 +1,0 @@
-pub mod Endings
-pub mod PoolProfiles
-pub mod Tellings
-pub mod RunEnds
