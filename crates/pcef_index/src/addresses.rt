@@ -38,7 +38,7 @@ pub(crate) enum Sought {
     Narrow([usize; 8]),
     /// The row of one of version 6.
     Wide(usize),
-    /// One that no line looks at: all let it pass.
+    /// One that isn't looked up, so all lines let it pass.
     Other,
 }
 
@@ -135,23 +135,41 @@ impl Addresses {
         }
     }
 
+    /// Whether no line has a network.
+    #[inline(always)]
+    fn is_empty(&self) -> bool {
+        match self {
+            Addresses::Narrow(digits) => digits.is_empty(),
+            Addresses::Wide(nets) => nets.is_empty(),
+        }
+    }
+
     /// An address as it is looked up.
     #[inline(always)]
     pub(crate) fn sought(&self, addr: Addr) -> Sought
         ensures { IsSought self.now addr result }
     {
         match (self, addr) {
-            (Addresses::Narrow(digits), Addr::V4(number)) if !digits.is_empty() => {
-                Sought::Narrow(places_of(number))
-            }
-            (Addresses::Wide(nets), Addr::V6(number)) if !nets.is_empty() => {
-                Sought::Wide(nets.row_of(number))
-            }
+            (Addresses::Narrow(_), Addr::V4(number)) => Sought::Narrow(places_of(number)),
+            (Addresses::Wide(nets), Addr::V6(number)) => Sought::Wide(nets.row_of(number)),
             _ => Sought::Other,
         }
     }
 
-    /// Which of the 64 lines of a block let an address pass; all where no line looks at it.
+    /// The same where all lines let it pass if none has a network: it isn't looked up then. A remote address is, since
+    /// lines may ask for the session's own.
+    #[inline(always)]
+    pub(crate) fn sought_if_any(&self, addr: Addr) -> Sought
+        ensures { IsSought self.now addr result }
+    {
+        if self.is_empty() {
+            Sought::Other
+        } else {
+            self.sought(addr)
+        }
+    }
+
+    /// Which of the 64 lines of a block let an address pass; all where it isn't looked up.
     #[inline(always)]
     pub(crate) fn word(&self, block: usize, sought: Sought) -> u64
         requires { HasBlock self.now block sought }

@@ -95,7 +95,7 @@ impl Sieve {
         Probe {
             remote: self.remote.sought(remote),
             assigned: if remote.is_assigned(*ue) { u64::MAX } else { 0 },
-            local: self.local.sought(addr_on(Side::Local, header)),
+            local: self.local.sought_if_any(addr_on(Side::Local, header)),
             proto: self.proto.row_of(Some(numbers.proto)),
             remote_port: self.remote_port.row_of(numbers.remote_port),
             local_port: self.local_port.row_of(numbers.local_port),
