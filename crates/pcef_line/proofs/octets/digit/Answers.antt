@@ -1,9 +1,9 @@
 use Rattle.std.proofs.Common.{refl, arith}
-use Rattle.pcef_line.proofs.Digits.{digit_read, digit_refused}
+use Rattle.pcef_line.proofs.Digits.{digit_is, digit_most}
 use Rattle.pcef_line.proofs.octets.digit.Goals as goal
 
-pub returns-then-value-lt16-clause-value : goal.returns-then-value-lt16-clause-value
-returns-then-value-lt16-clause-value c = digit_read c.args.code _ (omega arith) refl c.if-value-lt16.true
+pub returns-clause-value : goal.returns-clause-value
+returns-clause-value c = digit_is c.args.code _ (omega arith) refl
 
-pub returns-else-value-lt16-clause-value : goal.returns-else-value-lt16-clause-value
-returns-else-value-lt16-clause-value c = digit_refused c.args.code _ (omega arith) refl c.if-value-lt16.false
+pub returns-clause-most : goal.returns-clause-most
+returns-clause-most c = digit_most c.args.code _ (omega arith) refl
