@@ -147,5 +147,6 @@ pub(crate) fn numbers_of(
             numbers.push(number)?;
         }
     }
+    numbers.shrink_to_fit();
     Ok(numbers)
 }

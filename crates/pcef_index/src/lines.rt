@@ -187,5 +187,6 @@ pub(crate) fn lines_of(
     for place in 0..sources.len() {
         push_source(&mut lines, place as u8, &sources[place], own)?;
     }
+    lines.shrink_to_fit();
     Ok(lines)
 }
