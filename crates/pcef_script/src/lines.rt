@@ -11,8 +11,8 @@ ghost use Rattle.pcef_script.specs.Scripts.{IsFirstLine};
 
 use memchr::memchr;
 use pcef_line::{Line, LineFault, LineReader};
+use simdutf8::basic::from_utf8;
 use std::alloc::Global;
-use std::str;
 
 /// The most bytes of a line, without its line feed.
 pub const MAX_LINE: usize = 262_144;
@@ -53,7 +53,7 @@ pub fn line_of(alloc: Global, reader: &mut LineReader, bytes: &[u8]) -> Result<L
     if bytes.len() > MAX_LINE {
         return Err(LineFault::LineTooLong);
     }
-    match str::from_utf8(bytes) {
+    match from_utf8(bytes) {
         Ok(text) => reader.read(alloc, text),
         Err(_) => Err(LineFault::NotUtf8),
     }

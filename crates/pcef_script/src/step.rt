@@ -13,8 +13,8 @@ use pcef_catalog::Detects;
 use pcef_line::{Line, LineFault, LineReader};
 use pcef_model::Step;
 use pcef_world::WorldState;
+use simdutf8::basic::from_utf8;
 use std::alloc::{AllocError, Global};
-use std::str;
 
 /// The answer to a line, and whether the line is at fault.
 #[derive(Drop)]
@@ -165,7 +165,7 @@ pub(crate) fn answer_line<C: Detects>(
     ensures setting { world.new.session.setting ≡ world.old.session.setting }
     ensures forgotten { world.new.session.forgotten ≡ world.old.session.forgotten }
 {
-    match str::from_utf8(line) {
+    match from_utf8(line) {
         Ok(text) => answer_text(alloc, catalog, world, lines, text),
         Err(_) => fault(alloc, LineFault::NotUtf8),
     }

@@ -12,11 +12,11 @@ returns-then-bytes-gt-MAX_LINE c = (Err LineTooLong, long_due c.args.bytes.now c
 pub returns-in-Ok : goal.returns-in-Ok
 returns-in-Ok c =
     let bytes = c.args.bytes.now in
-    let text = c.in-Ok.ensures.cases in
+    let text = c.in-Ok.ensures in
     let due = c.read.ensures.0 in
     (due, within_due bytes due c.if-bytes-gt-MAX_LINE.false (text_due bytes due text.1 (subst (λ b. LineOf b due) text.0 c.read.ensures.1)), c.read.ensures.2)
 
 pub returns-in-Err : goal.returns-in-Err
 returns-in-Err c =
     let bytes = c.args.bytes.now in
-    (Err NotUtf8, within_due bytes (Err NotUtf8) c.if-bytes-gt-MAX_LINE.false (other_due bytes c.in-Err.ensures.cases.0), inr refl)
+    (Err NotUtf8, within_due bytes (Err NotUtf8) c.if-bytes-gt-MAX_LINE.false (other_due bytes c.in-Err.ensures), inr refl)

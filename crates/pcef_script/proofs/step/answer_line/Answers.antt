@@ -10,7 +10,7 @@ use Rattle.pcef_script.proofs.step.answer_line.Goals as goal
 
 pub returns-in-Ok-clause-answer : goal.returns-in-Ok-clause-answer
 returns-in-Ok-clause-answer g c =
-    let text = c.in-Ok.ensures.cases in
+    let text = c.in-Ok.ensures in
     let world = c.args.world.now in
     due_answered c.answer_text.result (LineOf c.in-Ok.text.now) (DueWithin (Some c.args.line.now)) world.session.setting (standing_of world) (standing_of c.answer_text.new.world)
     (λ due read. text_due c.args.line.now due text.1 (subst (λ bytes. LineOf bytes due) text.0 read)) c.answer_text.ensures.answer
@@ -18,12 +18,12 @@ returns-in-Ok-clause-answer g c =
 pub returns-in-Err-clause-answer : goal.returns-in-Err-clause-answer
 returns-in-Err-clause-answer g c =
     let world = c.args.world.now in
-    fault_answered c.fault.result (DueWithin (Some c.args.line.now)) world.session.setting (standing_of world) NotUtf8 (other_due c.args.line.now c.in-Err.ensures.cases.0)
+    fault_answered c.fault.result (DueWithin (Some c.args.line.now)) world.session.setting (standing_of world) NotUtf8 (other_due c.args.line.now c.in-Err.ensures)
     (c.fault.ensures world.session.setting (standing_of world))
 
 pub returns-in-Ok-clause-lacks : goal.returns-in-Ok-clause-lacks
 returns-in-Ok-clause-lacks g c =
-    let text = c.in-Ok.ensures.cases in
+    let text = c.in-Ok.ensures in
     let world = c.args.world.now in
     on_err_weaker c.answer_text.result
     (due_lacks (LineOf c.in-Ok.text.now) (DueWithin (Some c.args.line.now)) world.session.setting (standing_of world) (standing_of c.answer_text.new.world)
