@@ -122,7 +122,7 @@ fn of_kind(kind: u8, fields: &[u8]) -> Result<Frame<'_>, FrameFault>
 }
 
 /// The name that begins a frame, its kind, and the fields behind it.
-fn parts(frame: &[u8]) -> Option<(&[u8], u8, &[u8])>
+pub(crate) fn parts(frame: &[u8]) -> Option<(&[u8], u8, &[u8])>
     ensures some { IfSome result (λ p. meaning frame.now ≡ named p.0.now (p.1 ∷ p.2.now)) }
     ensures none { IfNone result (meaning frame.now ≡ Err ShortFrame) }
 {

@@ -4,6 +4,7 @@ ghost use Rattle.std.specs.Prelude.{◌≡◌, ◌≤◌, Err, IfOk, IfSome, dro
 ghost use Rattle.pcef_sessions.specs.Frames.{meaning};
 ghost use Rattle.pcef_sessions.specs.private.Framing.{EndStops, EndsFrames, FailsMore, ReadsFrames, SaysMore, StopsFrames, StopsReading, TakesFrames};
 
+use crate::ahead::ahead_of_frames;
 use crate::frame_fault::FrameFault;
 use crate::front::{Front, front_of};
 use crate::running::{either, write_named};
@@ -18,6 +19,8 @@ pub(crate) struct Framing {
     pub sessions: Sessions,
     /// Whether a frame was malformed, or its line at fault.
     pub any_fault: bool,
+    /// What was read of memory ahead of its use. It stands here lest the reading be left out, for nobody asks for it.
+    pub read: u64,
 }
 
 /// Answers a frame.
@@ -76,7 +79,9 @@ pub(crate) fn take_frames<W: Write>(
     ensures most { IfOk result (λ taken. IfSome taken (λ many. many ≤ length octets.now)) }
 {
     let mut rest = octets;
+    let mut left = 0;
     'frames: loop {
+        left = ahead_of_frames(left, &mut framing.read, &framing.sessions, rest);
         match front_of(rest) {
             Front::Whole(frame, others) => {
                 answer_frame(framing, writer, frame)?;

@@ -9,6 +9,7 @@ ghost use Rattle.pcef_script.specs.ScriptLines.{is_blank_line};
 ghost use Rattle.pcef_sessions.specs.Under.{renewal_text, renewed};
 ghost use Rattle.pcef_world.specs.Steps.{standing_of};
 
+use crate::ahead::read_world;
 use pcef_built_in::ShapedCatalog;
 use pcef_index::IndexShelf;
 use pcef_line::{Line, LineFault, LineReader};
@@ -54,6 +55,11 @@ impl Model for Held {
 }
 
 impl Held {
+    /// Reads octets of what its next lines touch.
+    pub(crate) fn read(&self) -> u64 {
+        read_world(&self.world)
+    }
+
     /// A session that was just opened.
     pub(crate) fn new(catalog: Arc<ShapedCatalog>, world: WorldState) -> Held
         requires { arc_value catalog ≡ world.session.setting.catalog }

@@ -5,10 +5,11 @@
 //! Its contracts say: under each name stand exactly the answers that a script gives to that name's lines between its
 //! `open`, its renewals and its `end`; a line of one session changes no other.
 //!
-//! In the order of reading: `name`, `asking`, `frame_fault`, `frame`, `held`, `sessions`, `saying`, `laws`, `running`,
-//! `front`, `framing`, `run`.
+//! In the order of reading: `name`, `asking`, `frame_fault`, `frame`, `held`, `sessions`, `saying`, `laws`, `front`,
+//! `ahead`, `running`, `framing`, `run`.
 #![tactic(auto)]
 
+mod ahead;
 mod asking;
 mod frame;
 mod frame_fault;

@@ -36,7 +36,7 @@ pub(crate) fn name_of(octets: &[u8]) -> Option<SessionName>
 }
 
 /// A line at its first space: what stands before it, and what behind it.
-fn at_space(line: &[u8]) -> Option<(&[u8], &[u8])>
+pub(crate) fn at_space(line: &[u8]) -> Option<(&[u8], &[u8])>
     ensures { option_map (λ p. (p.0.now, p.1.now)) result ≡ at_space line.now }
 {
     match memchr(b' ', line) {

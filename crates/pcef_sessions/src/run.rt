@@ -41,6 +41,7 @@ fn serve_all<R: Read, W: Write>(
         sessions,
         line: Vec::new(alloc),
         any_fault: false,
+        read: 0,
     };
     let mut block = [0u8; BLOCK];
     for _ in 0..u64::MAX {
@@ -98,6 +99,7 @@ fn serve_all_frames<R: Read, W: Write>(
     let mut framing = Framing {
         sessions,
         any_fault: false,
+        read: 0,
     };
     let mut pending = Vec::new(alloc);
     let mut block = [0u8; FRAMES_BLOCK];

@@ -8,6 +8,7 @@ ghost use Rattle.pcef_sessions.specs.Sayings.{said_of};
 ghost use Rattle.pcef_sessions.specs.Served.{name_bytes, said_bytes};
 ghost use Rattle.pcef_sessions.specs.private.Running.{EndsAll, FailsAtEnd, KeepsMore, ReadsAll, StopsIn};
 
+use crate::ahead::ahead_of_lines;
 use crate::name::{NO_NAME, SessionName};
 use crate::saying::NamedAnswer;
 use crate::sessions::Sessions;
@@ -27,6 +28,8 @@ pub(crate) struct Serving {
     pub line: Vec<u8>,
     /// Whether a line was at fault.
     pub any_fault: bool,
+    /// What was read of memory ahead of its use. It stands here lest the reading be left out, for nobody asks for it.
+    pub read: u64,
 }
 
 /// A name, or a dash in the place of one.
@@ -129,7 +132,9 @@ fn take_block<W: Write>(
         (W.contents writer.new) block.now }
 {
     let mut rest = block;
+    let mut left = 0;
     'lines: while let Some(place) = memchr(b'\n', rest) {
+        left = ahead_of_lines(left, &mut serving.read, &serving.sessions, rest);
         take_line(serving, writer, rest.split_at(place).0)?;
         rest = rest.split_at(place + 1).1;
     }

@@ -1,6 +1,6 @@
 //! The sessions that are open, by their names.
 
-ghost use Rattle.std.specs.Prelude.{◌≡◌, ◌≢◌, ◌≤◌, ℕ, List, codes, length, IfErr, IfOk, None, OnErr, OnOk, Some, false};
+ghost use Rattle.std.specs.Prelude.{option_map, ◌≡◌, ◌≢◌, ◌≤◌, ℕ, List, codes, length, IfErr, IfOk, None, OnErr, OnOk, Some, false};
 ghost use Rattle.std.specs.Arc.{arc_value};
 ghost use Rattle.hex.specs.Hex.{encode_lower};
 ghost use Rattle.pcef_line.specs.Canonical.{step_text, take_text};
@@ -118,6 +118,16 @@ impl Sessions {
             shelf: IndexShelf::new(alloc),
             table: HashMap::with_hasher(alloc, keys),
         })
+    }
+
+    /// The session of a name, if there is one.
+    pub(crate) fn find(&self, name: &SessionName) -> Option<&Held>
+        ensures { option_map (λ s. s.now.session) result ≡ held self.now name.now }
+    {
+        match self.table.get(name) {
+            Some(held) => Some(&**held),
+            None => None,
+        }
     }
 
     /// A session that is just opened.

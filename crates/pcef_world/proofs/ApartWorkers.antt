@@ -28,9 +28,9 @@ use Rattle.pcef_packet.specs.declared.header.Header.{Header}
 use Rattle.pcef_session.specs.declared.batch.BatchFull.{BatchFull}
 use Rattle.pcef_world.specs.Apart.{FlushesApart, IsApart, IsNewApart, IsRefreshed, TakesApart, LacksApart}
 use Rattle.pcef_world.specs.Steps.{standing_of}
-use Rattle.pcef_world.specs.private.Soundness.{IsSoundWith, seen}
+use Rattle.pcef_world.specs.private.Soundness.{IsSoundWith}
 use Rattle.std.specs.Prelude.{OnErr}
-use Rattle.pcef_world.specs.Workers.{AllWait, IsJudged, MayHandOver, Waits, after_flushing, held_by, with_item, LacksForItem}
+use Rattle.pcef_world.specs.Workers.{AllWait, IsJudged, MayHandOver, Waits, after_flushing, held_by, with_item, LacksForItem, seen}
 use Rattle.pcef_world.proofs.WorkersWait.{waits_beside, waits_flushed, waits_later, waits_left, waits_new, waits_refresh, waits_take}
 use Rattle.pcef_world.proofs.WrittenLists.{get_mapped, get_pushed}
 

@@ -33,8 +33,8 @@ use Rattle.pcef_world.specs.declared.answer.StepAnswer.{StepAnswer}
 use Rattle.pcef_world.specs.declared.answer.StepAnswer.TheVariants as answer
 use Rattle.pcef_world.specs.declared.worker.WorldWorker.{WorldWorker}
 use Rattle.pcef_world.specs.private.Places.{AbandonsAt, FinishesAt, FlushesAt, RefreshesAt, TakesAt, after_coming, after_finishing, attach_step_answer, finish_step_answer, flush_step_answer}
-use Rattle.pcef_world.specs.private.Soundness.{IsSoundWith, seen}
-use Rattle.pcef_world.specs.Workers.{IsJudged, Waits, after_flushing, held_by, with_item}
+use Rattle.pcef_world.specs.private.Soundness.{IsSoundWith}
+use Rattle.pcef_world.specs.Workers.{IsJudged, Waits, after_flushing, held_by, with_item, seen}
 use Rattle.pcef_world.specs.Steps.{Lacks, Plays, Reply, Standing, abandon_reply, attach_step, finished, handed_over, is_error, is_refusal, reply_of, row_taken, standing_of, step_outcome, take_reply, take_step, with_generation, with_none, with_place, with_row}
 use Rattle.pcef_model.proofs.JournalExtends.{attached_not, flushed_not}
 use Rattle.pcef_session.proofs.Leaving.{finished_not}

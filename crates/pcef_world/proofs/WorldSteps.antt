@@ -25,8 +25,8 @@ use Rattle.pcef_session.specs.SessionModel.{SessionModel}
 use Rattle.pcef_session.specs.Following.{row_of}
 use Rattle.pcef_model.specs.Refusals.{first_of, flush_refusals, is_attached}
 use Rattle.pcef_world.specs.private.Places.{AbandonsAt, FinishesAt, FlushesAt, RefreshesAt, TakesAt}
-use Rattle.pcef_world.specs.Workers.{AllWait, MayHandOver, Waits, held_by}
-use Rattle.pcef_world.specs.private.Soundness.{IsSoundWith, seen}
+use Rattle.pcef_world.specs.Workers.{AllWait, MayHandOver, Waits, held_by, seen}
+use Rattle.pcef_world.specs.private.Soundness.{IsSoundWith}
 use Rattle.pcef_world.specs.Worlds.{AreInTurn, IsInTurn, waiting_if_there}
 use Rattle.pcef_world.specs.declared.answer.StepAnswer.{StepAnswer}
 use Rattle.std.specs.declared.alloc.AllocError.{AllocError}

@@ -19,10 +19,15 @@ use Rattle.pcef_world.specs.declared.worker.WorldWorker.{WorldWorker}
 use Rattle.pcef_session.specs.Following.{HasItsSlots, row_of}
 use Rattle.pcef_model.specs.Lawful.{BatchFollows, newest_generation}
 use Rattle.pcef_session.specs.Shown.{Shows}
+use Rattle.pcef_world.specs.Worlds.{Waiting}
 
 -- the table that a worker holds
 abbrev pub held_by : WorldWorker → TableValue
 held_by w = arc_value w.held
+
+-- what callers see of a worker: the generation that it holds, and its rows that wait
+abbrev pub seen : WorldWorker → Waiting
+seen w = record { generation = (held_by w).number; rows = map row_of w.waiting }
 
 -- ---- what a worker does
 -- an item that a worker makes of a packet, where it has handed over `handed_over` rows

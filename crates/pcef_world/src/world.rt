@@ -2,6 +2,7 @@
 
 ghost use Rattle.std.specs.Prelude.{◌≡◌, ◌≤◌, [], IfErr, IfOk, length};
 ghost use Rattle.std.specs.Arc.{arc_value};
+ghost use Rattle.std.specs.Option.{option_map};
 ghost use Rattle.std.specs.Result.{result_err};
 ghost use Rattle.pcef_model.specs.Outcomes.{AttachStep, Opens};
 ghost use Rattle.pcef_model.specs.Journals.{attach_count, report_count};
@@ -10,7 +11,8 @@ ghost use Rattle.pcef_model.specs.declared.step.Step.{Step};
 ghost use Rattle.pcef_model.specs.declared.step.Step.TheVariants as of;
 ghost use Rattle.pcef_session.specs.Answers.{ShowsNewest};
 ghost use Rattle.pcef_world.specs.Steps.{LacksForStep, MakesStep, standing_of};
-ghost use Rattle.pcef_world.specs.Worlds.{HasWorkersInTurn, IsOpenedWorld};
+ghost use Rattle.pcef_world.specs.Workers.{seen};
+ghost use Rattle.pcef_world.specs.Worlds.{HasWorkersInTurn, IsOpenedWorld, waiting_at};
 ghost use Rattle.pcef_world.specs.private.Places.{after_coming};
 
 use crate::answer::{StepAnswer, attach_step_answer, command_step_answer};
@@ -94,6 +96,16 @@ impl WorldState {
         ensures in_turn { HasWorkersInTurn self.now }
     {
         &self.session
+    }
+
+    /// The worker of a number, if it is there. Takes no memory.
+    pub fn worker(&self, number: u8) -> Option<&WorldWorker>
+        ensures { option_map (λ w. seen w.now) result ≡ waiting_at self.now.workers number }
+    {
+        match self.workers.get(usize::from(number)) {
+            Some(Some(worker)) => Some(worker),
+            _ => None,
+        }
     }
 
     /// Makes one step: a command of the session, or what a worker does.

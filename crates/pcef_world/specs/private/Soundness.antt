@@ -5,14 +5,9 @@ use Rattle.pcef_model.specs.Journals.{attach_count}
 use Rattle.pcef_world.specs.declared.world.WorldState.TheInside.{Inside}
 use Rattle.pcef_world.specs.declared.worker.WorldWorker.{WorldWorker}
 use Rattle.pcef_session.specs.SessionModel.{SessionModel}
-use Rattle.pcef_session.specs.Following.{row_of}
 use Rattle.pcef_world.specs.private.Followed.{FollowsNewest}
-use Rattle.pcef_world.specs.Workers.{AllWait, held_by}
-use Rattle.pcef_world.specs.Worlds.{Waiting, World}
-
--- what callers see of a worker
-abbrev pub seen : WorldWorker → Waiting
-seen w = record { generation = (held_by w).number; rows = map row_of w.waiting }
+use Rattle.pcef_world.specs.Workers.{AllWait, seen}
+use Rattle.pcef_world.specs.Worlds.{World}
 
 abbrev pub world_of : Inside → World
 world_of w = record { session = w.session; workers = map (option_map seen) w.workers.items }

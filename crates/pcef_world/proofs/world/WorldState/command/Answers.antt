@@ -1,6 +1,6 @@
 use Rattle.std.proofs.Common.{map}
 use Rattle.std.specs.Option.{option_map}
-use Rattle.pcef_world.specs.private.Soundness.{seen}
+use Rattle.pcef_world.specs.Workers.{seen}
 use Rattle.pcef_world.proofs.WorldAnswers.{command_answer}
 use Rattle.pcef_world.proofs.WorldSteps.{sound_command}
 use Rattle.pcef_world.proofs.world.WorldState.command.Goals as goal
