@@ -15,6 +15,9 @@ use pcef_world::{WorldState, WorldWorker};
 /// The sessions of so many lines are read at once: what they touch fits into the caches.
 const AHEAD: usize = 32;
 
+/// What fewer sessions touch stays in the caches.
+const FEW: usize = 512;
+
 /// So many of a table's first rules are read.
 const MOST_RULES: usize = 4;
 
@@ -125,7 +128,9 @@ pub(crate) fn ahead_of_lines(
     if left > 0 {
         return left - 1;
     }
-    *read = read_for_lines(sessions, block);
+    if !sessions.are_below(FEW) {
+        *read = read_for_lines(sessions, block);
+    }
     AHEAD - 1
 }
 
@@ -139,6 +144,8 @@ pub(crate) fn ahead_of_frames(
     if left > 0 {
         return left - 1;
     }
-    *read = read_for_frames(sessions, octets);
+    if !sessions.are_below(FEW) {
+        *read = read_for_frames(sessions, octets);
+    }
     AHEAD - 1
 }

@@ -130,6 +130,11 @@ impl Sessions {
         }
     }
 
+    /// Whether there are fewer than so many sessions.
+    pub(crate) fn are_below(&self, many: usize) -> bool {
+        self.table.len() < many
+    }
+
     /// A session that is just opened.
     fn open(&self, ue: Option<Addr>) -> Result<Box<Held>, AllocError>
         ensures { IfOk result (λ b. b.value.session ≡ opened (with_address ue (fixed self.now))) }
