@@ -117,8 +117,8 @@ fn read_for_frames(sessions: &Sessions, octets: &[u8]) -> u64 {
     read_all(&found)
 }
 
-/// Reads ahead of the lines of a block, unless it was read ahead of so many of them, and returns of how many it is then
-/// behind the first. Takes no memory.
+/// Reads ahead of the next lines of a block, unless that was done for `left` of them. Returns for how many behind the
+/// first one it is done then. Takes no memory.
 pub(crate) fn ahead_of_lines(
     left: usize,
     read: &mut u64,
@@ -134,7 +134,7 @@ pub(crate) fn ahead_of_lines(
     AHEAD - 1
 }
 
-/// The same of frames.
+/// The same for frames.
 pub(crate) fn ahead_of_frames(
     left: usize,
     read: &mut u64,

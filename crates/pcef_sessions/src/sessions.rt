@@ -1,6 +1,6 @@
 //! The sessions that are open, by their names.
 
-ghost use Rattle.std.specs.Prelude.{option_map, ◌≡◌, ◌≢◌, ◌≤◌, ℕ, List, codes, length, IfErr, IfOk, None, OnErr, OnOk, Some, false};
+ghost use Rattle.std.specs.Prelude.{◌≡◌, ◌≢◌, ◌≤◌, ℕ, List, codes, length, option_map, IfErr, IfOk, None, OnErr, OnOk, Some, false};
 ghost use Rattle.std.specs.Arc.{arc_value};
 ghost use Rattle.hex.specs.Hex.{encode_lower};
 ghost use Rattle.pcef_line.specs.Canonical.{step_text, take_text};
