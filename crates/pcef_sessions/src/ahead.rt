@@ -24,6 +24,15 @@ const MOST_RULES: usize = 4;
 /// So many of a session's first workers are read.
 const MOST_WORKERS: u8 = 2;
 
+/// What octets hold.
+#[derive(Clone, Copy)]
+pub(crate) enum Input {
+    /// Lines.
+    Lines,
+    /// Frames.
+    Frames,
+}
+
 /// Reads octets of a rule.
 fn read_rule(entry: &TableEntry) -> u64 {
     let Source::Dynamic(rule) = &entry.source else {
@@ -117,35 +126,23 @@ fn read_for_frames(sessions: &Sessions, octets: &[u8]) -> u64 {
     read_all(&found)
 }
 
-/// Reads ahead of the next lines of a block, unless that was done for `left` of them. Returns for how many behind the
-/// first one it is done then. Takes no memory.
-pub(crate) fn ahead_of_lines(
+/// Reads ahead of the next lines or frames in some octets, unless that was done for `left` of them. Returns for how many
+/// behind the first one it is done then. Takes no memory.
+pub(crate) fn read_ahead(
     left: usize,
     read: &mut u64,
     sessions: &Sessions,
-    block: &[u8],
-) -> usize {
-    if left > 0 {
-        return left - 1;
-    }
-    if !sessions.are_below(FEW) {
-        *read = read_for_lines(sessions, block);
-    }
-    AHEAD - 1
-}
-
-/// The same for frames.
-pub(crate) fn ahead_of_frames(
-    left: usize,
-    read: &mut u64,
-    sessions: &Sessions,
+    input: Input,
     octets: &[u8],
 ) -> usize {
     if left > 0 {
         return left - 1;
     }
     if !sessions.are_below(FEW) {
-        *read = read_for_frames(sessions, octets);
+        *read = match input {
+            Input::Lines => read_for_lines(sessions, octets),
+            Input::Frames => read_for_frames(sessions, octets),
+        };
     }
     AHEAD - 1
 }

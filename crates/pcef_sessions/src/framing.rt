@@ -4,7 +4,7 @@ ghost use Rattle.std.specs.Prelude.{◌≡◌, ◌≤◌, Err, IfOk, IfSome, dro
 ghost use Rattle.pcef_sessions.specs.Frames.{meaning};
 ghost use Rattle.pcef_sessions.specs.private.Framing.{EndStops, EndsFrames, FailsMore, ReadsFrames, SaysMore, StopsFrames, StopsReading, TakesFrames};
 
-use crate::ahead::ahead_of_frames;
+use crate::ahead::{Input, read_ahead};
 use crate::frame_fault::FrameFault;
 use crate::front::{Front, front_of};
 use crate::running::{either, write_named};
@@ -81,7 +81,13 @@ pub(crate) fn take_frames<W: Write>(
     let mut rest = octets;
     let mut left = 0;
     'frames: loop {
-        left = ahead_of_frames(left, &mut framing.read, &framing.sessions, rest);
+        left = read_ahead(
+            left,
+            &mut framing.read,
+            &framing.sessions,
+            Input::Frames,
+            rest,
+        );
         match front_of(rest) {
             Front::Whole(frame, others) => {
                 answer_frame(framing, writer, frame)?;

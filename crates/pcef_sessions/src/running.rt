@@ -8,7 +8,7 @@ ghost use Rattle.pcef_sessions.specs.Sayings.{said_of};
 ghost use Rattle.pcef_sessions.specs.Served.{name_bytes, said_bytes};
 ghost use Rattle.pcef_sessions.specs.private.Running.{EndsAll, FailsAtEnd, KeepsMore, ReadsAll, StopsIn};
 
-use crate::ahead::ahead_of_lines;
+use crate::ahead::{Input, read_ahead};
 use crate::name::{NO_NAME, SessionName};
 use crate::saying::NamedAnswer;
 use crate::sessions::Sessions;
@@ -134,7 +134,13 @@ fn take_block<W: Write>(
     let mut rest = block;
     let mut left = 0;
     'lines: while let Some(place) = memchr(b'\n', rest) {
-        left = ahead_of_lines(left, &mut serving.read, &serving.sessions, rest);
+        left = read_ahead(
+            left,
+            &mut serving.read,
+            &serving.sessions,
+            Input::Lines,
+            rest,
+        );
         take_line(serving, writer, rest.split_at(place).0)?;
         rest = rest.split_at(place + 1).1;
     }
