@@ -28,18 +28,18 @@ same_fits offers ue h base sources b k same = ap (λ (o : Option Source). option
 
 -- a rule of the base that doesn't fit, or doesn't stand, isn't at a place
 unplaced : (offers : List Offer) (ue : Addr) (h : Header) (sources : List Source) (p : Part) (b k : ℕ) → IsPart sources p → place_in p b ≡ Some k
-    → stands_and_fits p.places.items offers ue h (arc_value p.base) b ≡ false → fits_at offers ue h sources k ≡ false
+    → stands_and_fits p.places.items offers ue h (arc_value p.base).sources b ≡ false → fits_at offers ue h sources k ≡ false
 unplaced offers ue h sources p b k is there fails =
-    sym (same_fits offers ue h (arc_value p.base) sources b k (is.same b k there))
-    ∙ left_false (fits_at offers ue h (arc_value p.base) b) (is_some (place_in p b)) fails (ap is_some there)
+    sym (same_fits offers ue h (arc_value p.base).sources sources b k (is.same b k there))
+    ∙ left_false (fits_at offers ue h (arc_value p.base).sources b) (is_some (place_in p b)) fails (ap is_some there)
 
 placed_at : (offers : List Offer) (ue : Addr) (h : Header) (sources : List Source) (p : Part) (b : ℕ) (o : Option ℕ) → IsPart sources p → place_in p b ≡ o
-    → (fits_at offers ue h (arc_value p.base) b && is_some o) ≡ true → ((c : ℕ) → c < b → stands_and_fits p.places.items offers ue h (arc_value p.base) c ≡ false)
+    → (fits_at offers ue h (arc_value p.base).sources b && is_some o) ≡ true → ((c : ℕ) → c < b → stands_and_fits p.places.items offers ue h (arc_value p.base).sources c ≡ false)
     → IsFirstPlaced offers ue h sources p o
-placed_at offers ue h sources p b None is there passes before = absurd (let both = and_parts (fits_at offers ue h (arc_value p.base) b) false passes in cc)
+placed_at offers ue h sources p b None is there passes before = absurd (let both = and_parts (fits_at offers ue h (arc_value p.base).sources b) false passes in cc)
 placed_at offers ue h sources p b (Some place) is there passes before =
-    let both = and_parts (fits_at offers ue h (arc_value p.base) b) true passes in (
-      sym (same_fits offers ue h (arc_value p.base) sources b place (is.same b place there)) ∙ both.0,
+    let both = and_parts (fits_at offers ue h (arc_value p.base).sources b) true passes in (
+      sym (same_fits offers ue h (arc_value p.base).sources sources b place (is.same b place there)) ∙ both.0,
       λ k has fits. elim (cases_lt has.0 b) [
         | inl less ↦ contrary (fits_at offers ue h sources k) fits (unplaced offers ue h sources p has.0 k is has.1 (before has.0 less))
         | inr more ↦ elim (cases_lt b has.0) [
@@ -54,7 +54,7 @@ placed_at offers ue h sources p b (Some place) is there passes before =
 
 -- where the first rule of a base that fits and stands is at a place, no rule of the part fits at one before
 pub part_first : (offers : List Offer) (ue : Addr) (h : Header) (sources : List Source) (p : Part) (o : Option ℕ) → IsPart sources p
-    → IsFirstOf (stands_and_fits p.places.items offers ue h (arc_value p.base)) o → IsFirstPlaced offers ue h sources p (option_and_then (place_in p) o)
+    → IsFirstOf (stands_and_fits p.places.items offers ue h (arc_value p.base).sources) o → IsFirstPlaced offers ue h sources p (option_and_then (place_in p) o)
 part_first offers ue h sources p None is first = λ k has. unplaced offers ue h sources p has.0 k is has.1 (first has.0)
 part_first offers ue h sources p (Some b) is first = placed_at offers ue h sources p b (place_in p b) is refl first.0 first.1
 
@@ -64,12 +64,12 @@ weaken reach offers ue h sources p (Some place) first = first
 
 -- the same where only so many first rules of the base are looked at
 pub part_within : (reach : ℕ) (few : List (Option ℕ)) (offers : List Offer) (ue : Addr) (h : Header) (sources : List Source) (p : Part) (o : Option ℕ) → IsPart sources p
-    → ((b : ℕ) → b < reach → get_or few b None ≡ place_in p b) → ((b : ℕ) → reach ≤ b → get_or few b None ≡ None) → IsFirstOf (stands_and_fits few offers ue h (arc_value p.base)) o
+    → ((b : ℕ) → b < reach → get_or few b None ≡ place_in p b) → ((b : ℕ) → reach ≤ b → get_or few b None ≡ None) → IsFirstOf (stands_and_fits few offers ue h (arc_value p.base).sources) o
     → IsFirstWithin reach offers ue h sources p (option_and_then (place_in p) o)
 part_within reach few offers ue h sources p None is same past first = λ b k below there.
-    unplaced offers ue h sources p b k is there (ap (λ (o : Option ℕ). fits_at offers ue h (arc_value p.base) b && is_some o) (sym (same b below)) ∙ first b)
+    unplaced offers ue h sources p b k is there (ap (λ (o : Option ℕ). fits_at offers ue h (arc_value p.base).sources b && is_some o) (sym (same b below)) ∙ first b)
 part_within reach few offers ue h sources p (Some n) is same past first =
-    let fits : (b : ℕ) → Bool = λ b. fits_at offers ue h (arc_value p.base) b in
+    let fits : (b : ℕ) → Bool = λ b. fits_at offers ue h (arc_value p.base).sources b in
     let both = and_parts (fits n) (is_some (get_or few n None)) first.0 in
     elim (cases_lt n reach) [
       | inl below ↦

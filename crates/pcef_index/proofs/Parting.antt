@@ -163,10 +163,10 @@ pub nones : (n : ℕ) → AreNone (replicate n None)
 nones n = record { none = none_at n }
 
 -- which rules are left, and where the others stand, once all were looked for
-pub parted : (sources : List Source) (p : Part) (next : ℕ) (left : List ℕ) → PlacedTo (length sources) next (arc_value p.base) sources p.places.items left → IsPart sources p
+pub parted : (sources : List Source) (p : Part) (next : ℕ) (left : List ℕ) → PlacedTo (length sources) next (arc_value p.base).sources sources p.places.items left → IsPart sources p
 parted sources p next left placed = record { within = placed.within; same = placed.same; ordered = placed.ordered }
 
-pub left_over : (sources : List Source) (p : Part) (next : ℕ) (left : List ℕ) → PlacedTo (length sources) next (arc_value p.base) sources p.places.items left → IsRest sources p left
+pub left_over : (sources : List Source) (p : Part) (next : ℕ) (left : List ℕ) → PlacedTo (length sources) next (arc_value p.base).sources sources p.places.items left → IsRest sources p left
 left_over sources p next left placed = record { places = placed.rest; all = placed.all }
 
 -- ---- Rules with a base of their own
@@ -182,7 +182,7 @@ some_at (x ∷ ks) zero small = refl
 some_at (x ∷ ks) (suc b) small = some_at ks b (omega (arith, small))
 
 -- rules that were copied from their places stand there
-pub copied : (sources copies : List Source) (ks : List ℕ) (p : Part) → arc_value p.base ≡ copies → p.places.items ≡ map (λ n. Some n) ks → AreCopies sources ks copies → Ascend (length sources) ks
+pub copied : (sources copies : List Source) (ks : List ℕ) (p : Part) → (arc_value p.base).sources ≡ copies → p.places.items ≡ map (λ n. Some n) ks → AreCopies sources ks copies → Ascend (length sources) ks
     → IsPart sources p
 copied sources copies ks p base places are a =
     let here : (b k : ℕ) → at p.places.items b ≡ Some k → (b < length ks) × (get_or ks b 0 ≡ k) = λ b k there. at_some ks b k (ap (λ (ps : List (Option ℕ)). at ps b) (sym places) ∙ there) in

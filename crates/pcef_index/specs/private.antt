@@ -3,6 +3,7 @@ pub mod AllSieves
 pub mod Bases
 pub mod Blocks
 pub mod Bounds
+pub mod ByKinds
 pub mod Digits
 pub mod Firsts
 pub mod Indexes
@@ -14,5 +15,6 @@ pub mod Runs
 pub mod RuleFilters
 pub mod Sides
 pub mod Sieves
+pub mod Standing
 pub mod Starts
 pub mod Words

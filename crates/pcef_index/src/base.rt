@@ -7,11 +7,13 @@ ghost use Rattle.pcef_index.specs.declared.lines.Line.{Line};
 ghost use Rattle.pcef_index.specs.private.AllSieves.{AreServed};
 ghost use Rattle.pcef_index.specs.private.Bases.{IsFirstOf, stands_and_fits};
 ghost use Rattle.pcef_index.specs.private.Lines.{IsFor, standing_fits};
+ghost use Rattle.pcef_index.specs.private.Standing.{AreStandingIn, StandInKinds};
 
 use crate::kinds::kind_of;
 use crate::lines::{Line, Standing, lines_of, stands};
 use crate::sides::{Side, end_on};
-use crate::sieves::Sieves;
+use crate::sieves::{Sieves, sieves_of};
+use crate::standing_words::{StandingWords, all_standing, words_by_kind};
 use pcef_catalog::Detects;
 use pcef_filter::{Place, any_matches};
 use pcef_packet::{Addr, Header};
@@ -19,7 +21,7 @@ use pcef_table::{Source, is_own};
 use std::alloc::{AllocError, Global};
 use std::marker::Model;
 
-/// Rules, their lines, and the sieves of all kinds of packets. Contracts see the rules, in order.
+/// Rules, their lines, and the sieves of all kinds of packets. Contracts see all three.
 pub(crate) struct Base {
     sources: Vec<Source>,
     /// The address of the session whose packets alone are looked up, where filters have networks on its side.
@@ -41,13 +43,11 @@ impl Drop for Base {
 }
 
 impl Model for Base {
-    ghost use Rattle.std.specs.Prelude.{List};
-    ghost use Rattle.pcef_table.specs.declared.entry.Source.{Source};
-    ghost use Rattle.pcef_index.specs.private.AllSieves.{AreSievedOf};
+    ghost use Rattle.pcef_index.specs.private.AllSieves.{AreSievedOf, BaseValue};
 
-    ghost Value = { List Source };
+    ghost Value = { BaseValue };
 
-    ghost view = { λ b. b.sources.items };
+    ghost view = { λ b. record { sources = b.sources.items; lines = b.lines.items; sieves = b.sieves } };
 
     ghost invariant = { λ b. AreSievedOf b.sources.items b.own b.lines.items b.sieves };
 }
@@ -68,18 +68,21 @@ fn is_looked_up(own: Option<Addr>, ue: Addr, header: &Header) -> bool
 fn first_place<C: Detects>(
     sieves: &Sieves,
     standing: Standing<'_>,
+    words: &StandingWords,
     catalog: &C,
     ue: &Addr,
     header: &Header,
 ) -> Option<u8>
-    requires { AreServed standing.lines.now sieves.now }
+    requires served { AreServed standing.lines.now sieves.now }
+    requires words { StandInKinds standing.places.now standing.lines.now sieves.now words.now }
     ensures { result ≡ option_map (λ (l : Line). l.place)
         (find (standing_fits standing.entry.places.now (C.offers catalog.now) ue.now header.now)
         standing.entry.lines.now) }
 {
-    match sieves.of(kind_of(header)) {
+    let kind = kind_of(header);
+    match sieves.of(kind) {
         None => None,
-        Some(sieve) => sieve.first_place(standing, catalog, ue, header),
+        Some(sieve) => sieve.first_place(standing, words.of(kind), catalog, ue, header),
     }
 }
 
@@ -131,7 +134,7 @@ impl Base {
     /// is for all sessions. Fails when out of memory.
     pub(crate) fn new(alloc: Global, sources: Vec<Source>, ue: Addr) -> Result<Base, AllocError>
         requires { length sources.items ≤ 64 }
-        ensures { IfOk result (λ b. b ≡ sources.items) }
+        ensures { IfOk result (λ b. b.sources ≡ sources.items) }
     {
         let own = if have_local_networks(&sources) {
             Some(ue)
@@ -139,7 +142,7 @@ impl Base {
             None
         };
         let lines = lines_of(alloc, &sources, own)?;
-        let sieves = Sieves::new(alloc, &lines)?;
+        let sieves = sieves_of(alloc, &lines)?;
         Ok(Base {
             sources,
             own,
@@ -150,9 +153,23 @@ impl Base {
 
     /// The rules, in order.
     pub(crate) fn sources(&self) -> &[Source]
-        ensures { result.now ≡ self.now }
+        ensures { result.now ≡ self.now.sources }
     {
         &self.sources
+    }
+
+    /// The words of the lines whose rules stand at a place. Fails when out of memory.
+    pub(crate) fn standing(
+        &self,
+        alloc: Global,
+        places: &[Option<u8>],
+    ) -> Result<StandingWords, AllocError>
+        ensures { IfOk result (AreStandingIn self.now places.now) }
+    {
+        if places.iter().all(|place| place.is_some()) {
+            return Ok(all_standing(alloc));
+        }
+        words_by_kind(alloc, &self.lines, &self.sieves, places)
     }
 
     /// Whether the packets of a session with this address are looked up.
@@ -168,11 +185,13 @@ impl Base {
     pub(crate) fn first_standing<C: Detects>(
         &self,
         places: &[Option<u8>],
+        words: &StandingWords,
         catalog: &C,
         ue: &Addr,
         header: &Header,
     ) -> Option<u8>
-        ensures { IsFirstOf (stands_and_fits places.now (C.offers catalog.now) ue.now header.now self.now) result }
+        requires { AreStandingIn self.now places.now words.now }
+        ensures { IsFirstOf (stands_and_fits places.now (C.offers catalog.now) ue.now header.now self.now.sources) result }
     {
         if !is_looked_up(self.own, *ue, header) {
             return first_searched(&self.sources, places, catalog, ue, header);
@@ -181,6 +200,6 @@ impl Base {
             lines: &self.lines,
             places,
         };
-        first_place(&self.sieves, standing, catalog, ue, header)
+        first_place(&self.sieves, standing, words, catalog, ue, header)
     }
 }

@@ -18,17 +18,15 @@ use std::alloc::{AllocError, Global};
 /// The most lines of rules that came since.
 const MOST_NEWER: usize = 64;
 
-/// The most rules of an older base that went since, where none came. Their lines make intervals and words to look at.
-const MOST_GONE: usize = 3;
-
-/// The same where rules came, so that both bases are asked.
-const MOST_GONE_BESIDE: usize = 1;
+/// The most rules of an older base that went since. Their lines take memory and make intervals.
+const MOST_GONE: usize = 8;
 
 /// The rules of a table that came since its older base was made.
 #[derive(Drop)]
 pub(crate) struct Newer {
     part: Part,
-    /// For each place of the table, how many of the older base's first rules may stand before it.
+    /// For each place of the table, how many of the older base's first rules may stand before it: all of them, where none of
+    /// these rules stands there.
     reaches: Vec<usize>,
 }
 
@@ -74,15 +72,6 @@ fn lines_at(sources: &[Source], places: &[u8], ue: Addr) -> usize {
     count
 }
 
-/// How many rules of an older base may be gone beside rules at some places that came since.
-fn most_gone(rest: &[u8]) -> usize {
-    if rest.is_empty() {
-        MOST_GONE
-    } else {
-        MOST_GONE_BESIDE
-    }
-}
-
 /// The lesser of two places, where there are any.
 #[inline(always)]
 fn least(a: Option<u8>, b: Option<u8>) -> Option<u8>
@@ -107,14 +96,30 @@ fn all_places(alloc: Global, sources: &[Source]) -> Result<Vec<u8>, AllocError>
     Ok(places)
 }
 
-/// How many of a part's first rules may stand before each of the first places.
-fn reaches_of(alloc: Global, older: &Part, places: usize) -> Result<Vec<usize>, AllocError>
+/// How many of an older part's first rules may stand before a place: all of them, where no newer rule stands there.
+fn reach_at(older: &Part, newer: &[u8], place: u8) -> usize
+    ensures { Reaches older.now result place }
+{
+    if newer.contains(&place) {
+        older.reach(place)
+    } else {
+        older.len()
+    }
+}
+
+/// The same for each of the first places.
+fn reaches_of(
+    alloc: Global,
+    older: &Part,
+    newer: &[u8],
+    places: usize,
+) -> Result<Vec<usize>, AllocError>
     requires { places ≤ 64 }
     ensures { IfOk result (λ v. AreReaches older.now v.items) }
 {
     let mut reaches = Vec::with_capacity(alloc, places)?;
     for place in 0..places {
-        reaches.push(older.reach(place as u8))?;
+        reaches.push(reach_at(older, newer, place as u8))?;
     }
     Ok(reaches)
 }
@@ -133,7 +138,7 @@ impl Newer {
         ensures newer { IfOk result (IsNewer sources.now older.now) }
         ensures all { IfOk result (λ n. (k : ℕ) → Has places.items k → HasPlace n.part k) }
     {
-        let reaches = reaches_of(alloc, older, sources.len())?;
+        let reaches = reaches_of(alloc, older, &places, sources.len())?;
         let part = Part::new(alloc, sources, places, ue)?;
         Ok(Newer { part, reaches })
     }
@@ -171,7 +176,7 @@ impl Based {
         ensures { IfOk result (IsBased sources.now) }
     {
         let (older, rest) = Part::over(alloc, older.older.base()?, sources)?;
-        if lines_at(sources, &rest, ue) > MOST_NEWER || older.has_lost_many(most_gone(&rest)) {
+        if lines_at(sources, &rest, ue) > MOST_NEWER || older.has_lost_many(MOST_GONE) {
             return Based::new(alloc, sources, ue);
         }
         let newer = if rest.is_empty() {

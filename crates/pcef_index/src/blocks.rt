@@ -46,13 +46,14 @@ impl Layout {
         ensures rows { self.new.rows ≡ self.old.rows }
     {
         self.places.reserve(self.rows)?;
+        let mut here = self.next;
         for row in 0..self.rows {
             if row < begins.len() && begins[row] {
-                self.next = self.next.saturating_add(1);
+                here = here.saturating_add(1);
             }
-            self.places.push_reserved(self.next);
+            self.places.push_reserved(here);
         }
-        self.next = self.next.saturating_add(1);
+        self.next = here.saturating_add(1);
         Ok(())
     }
 }

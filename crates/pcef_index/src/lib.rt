@@ -4,9 +4,9 @@
 //! Its contracts say: the same verdict and slots as the table's, with the place of the rule that decided, by one look-up,
 //! and which entries may match a header; that a shared index changes nothing.
 //!
-//! In the order of reading: `candidates`, `rule_filter`, `lines`, `sides`, `kinds`, `words`, `blocks`, `fields`, `ends`,
-//! `steps`, `rows`, `digits`, `bounds`, `nets`, `addresses`, `free`, `runs`, `sieve`, `sieving`, `sieves`, `base`, `equal`,
-//! `part`, `based`, `index`, `indexed`, `fingerprint`, `shelf`.
+//! In the order of reading: `candidates`, `rule_filter`, `lines`, `sides`, `kinds`, `by_kind`, `words`, `blocks`, `fields`,
+//! `ends`, `steps`, `rows`, `digits`, `bounds`, `nets`, `addresses`, `free`, `runs`, `sieve`, `sieving`, `sieves`,
+//! `standing_words`, `base`, `equal`, `part`, `parts`, `based`, `index`, `indexed`, `fingerprint`, `shelf`.
 #![tactic(auto)]
 
 mod addresses;
@@ -14,6 +14,7 @@ mod base;
 mod based;
 mod blocks;
 mod bounds;
+mod by_kind;
 mod candidates;
 mod digits;
 mod ends;
@@ -27,6 +28,7 @@ mod kinds;
 mod lines;
 mod nets;
 mod part;
+mod parts;
 mod rows;
 mod rule_filter;
 mod runs;
@@ -35,6 +37,7 @@ mod sides;
 mod sieve;
 mod sieves;
 mod sieving;
+mod standing_words;
 mod steps;
 mod words;
 

@@ -2,7 +2,7 @@
 
 ghost use Rattle.std.specs.Prelude.{◌≡◌, ◌≤◌, ◌<◌, ◌+◌, ◌/◌, ◌^◌, ℕ, IfOk, IfSome, length, true};
 ghost use Rattle.pcef_filter.specs.Matching.{in_ranges};
-ghost use Rattle.pcef_index.specs.private.Rows.{AreRows, LetsNumber, row_of};
+ghost use Rattle.pcef_index.specs.private.Rows.{AreRows, LetsNumber, row_of, step_cell};
 
 use crate::blocks::{BlockWords, Layout};
 use crate::ends::Ends;
@@ -22,13 +22,29 @@ pub(crate) struct Rows {
     pub words: BlockWords,
 }
 
-/// Notes the rows at which ranges begin, and those behind their last.
+/// The row of a range's last number, where that of its first is known. Most ranges are of one port.
+#[inline(always)]
+fn last_row(steps: &Steps, range: PortRange, first: usize) -> usize
+    requires is { first ≡ step_cell steps.now range.first }
+    requires within { first ≤ length steps.now.ports.items }
+    ensures is { result ≡ step_cell steps.now range.last }
+    ensures within { result ≤ length steps.now.ports.items }
+    ensures ranged { range.last < 2 ^ 16 }
+{
+    if range.last == range.first {
+        first
+    } else {
+        steps.cell_of(range.last)
+    }
+}
+
+/// Notes the rows at which ranges begin, and those behind their last. Both numbers are ends, so no row lies between the
+/// last one of a range and the next.
 fn note_ranges(begins: &mut [bool], steps: &Steps, ranges: &[PortRange]) {
     for range in ranges {
-        note(begins, steps.cell_of(range.first));
-        if range.last < u16::MAX {
-            note(begins, steps.cell_of(range.last + 1));
-        }
+        let first = steps.cell_of(range.first);
+        note(begins, first);
+        note(begins, last_row(steps, *range, first).saturating_add(1));
     }
 }
 
@@ -50,6 +66,27 @@ fn note_line(begins: &mut [bool], steps: &Steps, field: Field, line: &Line) {
         }
         Field::Nothing => (),
     }
+}
+
+/// Where words begin in a block, among so many rows: where ranges of its lines do, and behind their last numbers.
+fn begins_of(
+    alloc: Global,
+    steps: &Steps,
+    field: Field,
+    lines: &[Line],
+    numbers: &[usize],
+) -> Result<Vec<bool>, AllocError> {
+    let rows = steps.len().saturating_add(1);
+    let mut begins = vec![in alloc; false; rows]?;
+    // A field that no line looks at has one row.
+    if rows > 1 {
+        for number in numbers {
+            if let Some(line) = lines.get(*number) {
+                note_line(&mut begins, steps, field, line);
+            }
+        }
+    }
+    Ok(begins)
 }
 
 /// The ends of what lines let pass of a field. None is left in `ends`.
@@ -84,12 +121,7 @@ impl Rows {
         let blocks = numbers.len().div_ceil(64);
         let mut layout = Layout::new(alloc, blocks, rows)?;
         for block in 0..blocks {
-            let mut begins = vec![in alloc; false; rows]?;
-            for number in block_of(numbers, block) {
-                if let Some(line) = lines.get(*number) {
-                    note_line(&mut begins, &steps, field, line);
-                }
-            }
+            let begins = begins_of(alloc, &steps, field, lines, block_of(numbers, block))?;
             layout.push_block(&begins)?;
         }
         let words = BlockWords::new(alloc, layout)?;
@@ -108,7 +140,7 @@ impl Rows {
     {
         for range in ranges {
             let first = self.steps.cell_of(range.first);
-            let last = self.steps.cell_of(range.last);
+            let last = last_row(&self.steps, *range, first);
             self.words.mark(spot, first, last);
         }
     }

@@ -6,18 +6,19 @@ ghost use Rattle.pcef_catalog.specs.declared.listing.Offer.{Offer};
 ghost use Rattle.pcef_packet.specs.declared.header.Addr.{Addr};
 ghost use Rattle.pcef_packet.specs.declared.header.Header.{Header};
 ghost use Rattle.pcef_index.specs.private.Blocks.{HasWord};
-ghost use Rattle.pcef_index.specs.private.Lines.{line_fits, standing_fits};
+ghost use Rattle.pcef_index.specs.private.Lines.{standing_fits};
 ghost use Rattle.pcef_index.specs.private.Rows.{row_of};
 ghost use Rattle.pcef_index.specs.private.Runs.{AreRuns};
 ghost use Rattle.pcef_index.specs.private.Sieves.{AreNumbers, AreWithin, HasWords, IsProbe, IsSieve, Lets, LetsRow};
+ghost use Rattle.pcef_index.specs.private.Standing.{AreStanding};
 ghost use Rattle.pcef_index.specs.private.Words.{AreSieved, IsFirstIn, IsFitAt, first_of, fits_at, passes_at};
 
 use crate::addresses::Sought;
-use crate::lines::{Standing, stands};
+use crate::lines::Standing;
 use crate::rows::Rows;
-use crate::runs::rule_at;
 use crate::sides::{Side, addr_on, port_on, proto_number};
 use crate::sieve::Sieve;
+use crate::standing_words::standing_at;
 use crate::words::above;
 use pcef_catalog::Detects;
 use pcef_packet::{Addr, Header};
@@ -50,7 +51,7 @@ pub(crate) struct Probe {
     pub local_port: Option<usize>,
 }
 
-/// The lines of a block that let a packet pass.
+/// The lines of a block that let a packet pass, and whose rules stand.
 #[derive(Clone, Copy)]
 struct Passed {
     /// The number of the block.
@@ -163,8 +164,7 @@ impl Sieve {
         }
     }
 
-    /// The last line of a block in a row that fails where one does: those of its rule, where this doesn't stand, and all
-    /// where no rule from it on does.
+    /// The last line of a block that fails where one does: all do where no rule from this one's on stands.
     #[inline(always)]
     fn last_failing(&self, standing: Standing<'_>, block: usize, bit: u32) -> u32
         requires few { block * 64 + 64 < 2 ^ 64 }
@@ -177,18 +177,18 @@ impl Sieve {
             → bit ≤ t → t ≤ result
             → passes_at (fits_at (standing_fits standing.entry.places.now offers ue h) standing.entry.lines.now) self.now.numbers.items (block * 64 + t) ≡ false }
     {
-        let place = block * 64 + bit as usize;
-        if self.runs.are_behind(place, standing.places.len()) {
-            return 63;
-        }
-        match rule_at(standing.lines, &self.numbers, place) {
-            Some(rule) if !stands(standing.places, rule) => self.runs.last_from(block, bit),
-            _ => bit,
+        if self
+            .runs
+            .are_behind(block * 64 + bit as usize, standing.places.len())
+        {
+            63
+        } else {
+            bit
         }
     }
 
-    /// The place of the rule of the first line that fits, and whose rule still stands, among those of a block that let a
-    /// packet pass.
+    /// The place of the rule of the first line that fits, and whose rule still stands, among those of a block that have
+    /// a bit.
     #[inline(always)]
     fn first_in<C: Detects>(
         &self,
@@ -200,7 +200,7 @@ impl Sieve {
     ) -> Option<u8>
         requires few { passed.block * 64 + 64 < 2 ^ 64 }
         requires runs { AreRuns standing.lines.now self.now.numbers.items self.now.runs }
-        requires sieved { AreSieved (fits_at (line_fits (C.offers catalog.now) ue.now header.now) standing.lines.now)
+        requires sieved { AreSieved (fits_at (standing_fits standing.places.now (C.offers catalog.now) ue.now header.now) standing.lines.now)
             self.now.numbers.items (passed.block * 64) passed.word }
         ensures { IsFirstIn (standing_fits standing.entry.places.now (C.offers catalog.now) ue.now header.now)
             standing.entry.lines.now self.now.numbers.items (passed.block * 64) result }
@@ -222,11 +222,13 @@ impl Sieve {
     pub(crate) fn first_place<C: Detects>(
         &self,
         standing: Standing<'_>,
+        words: &[u64],
         catalog: &C,
         ue: &Addr,
         header: &Header,
     ) -> Option<u8>
-        requires { IsSieve standing.lines.now self.now }
+        requires sieve { IsSieve standing.lines.now self.now }
+        requires words { AreStanding standing.places.now standing.lines.now self.now.numbers.items words.now }
         ensures { result ≡ first_of (standing_fits standing.entry.places.now (C.offers catalog.now) ue.now header.now)
             standing.entry.lines.now self.now.numbers.items }
     {
@@ -235,7 +237,7 @@ impl Sieve {
         }
         let probe = self.probe(numbers_of(header), ue, header);
         for block in 0..self.free.len() {
-            let word = self.sieved(block, &probe);
+            let word = standing_at(words, block) & self.sieved(block, &probe);
             let passed = Passed { block, word };
             if let Some(place) = self.first_in(standing, passed, catalog, ue, header) {
                 return Some(place);

@@ -34,7 +34,7 @@ HasPlace p k = (b : ℕ) × (place_in p b ≡ Some k)
 -- a base's rules stand in their order at the places of rules that are equal to them
 pub record IsPart (sources : List Source) (p : Part) : Type 0 where
   pub within : (b k : ℕ) → place_in p b ≡ Some k → k < length sources
-  pub same : (b k : ℕ) → place_in p b ≡ Some k → slice_get (arc_value p.base) b ≡ slice_get sources k
+  pub same : (b k : ℕ) → place_in p b ≡ Some k → slice_get (arc_value p.base).sources b ≡ slice_get sources k
   pub ordered : (b c j k : ℕ) → b < c → place_in p b ≡ Some j → place_in p c ≡ Some k → j < k
 
 -- the numbers below one, in order

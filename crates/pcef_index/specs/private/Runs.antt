@@ -1,5 +1,5 @@
 -- Of which rules the lines of a sieve are.
-use Rattle.std.specs.Prelude.{ℕ, ◌+◌, ◌*◌, ◌≡◌, ◌≤◌, ◌<◌, List, Option, Some, get_or, slice_get, option_and_then}
+use Rattle.std.specs.Prelude.{ℕ, ◌≡◌, ◌≤◌, List, Option, Some, get_or, slice_get, option_and_then}
 use Rattle.pcef_index.specs.declared.lines.Line.{Line}
 use Rattle.pcef_index.specs.declared.runs.Runs.{Runs}
 use Rattle.pcef_index.specs.private.Words.{place_at}
@@ -13,12 +13,5 @@ abbrev pub AreLeasts : ℕ → List Line → List ℕ → List ℕ → Type 0
 AreLeasts from lines numbers leasts =
     (i j k : ℕ) → from ≤ i → i ≤ j → rule_at lines numbers j ≡ Some k → get_or leasts i 0 ≤ k
 
--- for line i of each block, from one on, the number of another one up to which all are of its rule
-abbrev pub AreLasts : ℕ → List Line → List ℕ → List ℕ → Type 0
-AreLasts from lines numbers lasts =
-    (block i t : ℕ) → i < 64 → from ≤ block * 64 + i → i ≤ t → t ≤ get_or lasts (block * 64 + i) 0
-    → rule_at lines numbers (block * 64 + t) ≡ rule_at lines numbers (block * 64 + i)
-
 pub record AreRuns (lines : List Line) (numbers : List ℕ) (r : Runs) : Type 0 where
   pub leasts : AreLeasts 0 lines numbers r.leasts.items
-  pub lasts : AreLasts 0 lines numbers r.lasts.items

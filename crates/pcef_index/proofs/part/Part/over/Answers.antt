@@ -3,6 +3,7 @@ use Rattle.std.specs.Prelude.{slice_get}
 use Rattle.std.specs.Arc.{arc_value}
 use Rattle.std.proofs.lemmas.Option.{slice_get-get_or}
 use Rattle.pcef_table.specs.declared.entry.Source.{Source}
+use Rattle.pcef_index.specs.private.AllSieves.{BaseValue}
 use Rattle.pcef_index.proofs.Parting.{PlacedTo, left_over, placed_here, placed_rest}
 use Rattle.pcef_index.proofs.part.Part.over.Goals as goal
 use Rattle.pcef_index.proofs.part.Part.over.Goals.{in-Some, in-None+in_ok-push-in-None}
@@ -11,7 +12,7 @@ pub loop-place-preserved : goal.loop-place-preserved
 loop-place-preserved c =
     let n = c.loop-place.place in
     let next = c.loop-place.next in
-    let base = arc_value c.args.base in
+    let base = (arc_value c.args.base).sources in
     let sources = c.args.sources.now in
     let places = c.loop-place.places.items in
     let left = c.loop-place.rest.items in
@@ -20,7 +21,7 @@ loop-place-preserved c =
     elim c.match-number_from.branch [
       | in-Some w ↦
           (let number = w.in-Some.number in
-          let there : slice_get base number ≡ Some s = ap (λ (ss : List Source). slice_get ss number) (sym (c.sources-in-loop-place.ensures ∙ c.deref-in-loop-place.ensures)) ∙ w.in-Some.ensures.1 in
+          let there : slice_get base number ≡ Some s = ap (λ (ss : List Source). slice_get ss number) (sym (c.sources-in-loop-place.ensures ∙ ap (λ (b : BaseValue). b.sources) c.deref-in-loop-place.ensures)) ∙ w.in-Some.ensures.1 in
           let placed : PlacedTo (n + 1) (number + 1) base sources (slice_set places number (Some n)) left =
           placed_here n next number base sources places left s c.loop-place.invariant w.in-Some.ensures.0 there is in
           rw (w.places-is, w.rest-is, w.next-is) placed)
@@ -33,5 +34,5 @@ loop-place-preserved c =
 pub returns-clause-rest : goal.returns-clause-rest
 returns-clause-rest c =
     let end : c.loop-place.place ≡ length c.args.sources.now = omega arith in
-    left_over c.args.sources.now (record { base = c.args.base; places = c.loop-place.places }) c.loop-place.next c.loop-place.rest.items
-    (subst (λ (n : ℕ). PlacedTo n c.loop-place.next (arc_value c.args.base) c.args.sources.now c.loop-place.places.items c.loop-place.rest.items) end c.loop-place.invariant)
+    left_over c.args.sources.now _ c.loop-place.next c.loop-place.rest.items
+    (subst (λ (n : ℕ). PlacedTo n c.loop-place.next (arc_value c.args.base).sources c.args.sources.now c.loop-place.places.items c.loop-place.rest.items) end c.loop-place.invariant)

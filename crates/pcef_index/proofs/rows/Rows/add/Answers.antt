@@ -24,6 +24,6 @@ loop-range-preserved c =
             | inr here ↦
                 c.mark.ensures.sets (step_cell steps n)
                 (omega (arith, c.cell_of-first.ensures.is, cell_grows steps r.first n here.0 small))
-                (omega (arith, c.cell_of-last.ensures.is, cell_grows steps n r.last here.1 c.cell_of-last.ensures.ranged))
+                (omega (arith, c.last_row-last.ensures.is, cell_grows steps n r.last here.1 c.last_row-last.ensures.ranged))
           ]);
     }

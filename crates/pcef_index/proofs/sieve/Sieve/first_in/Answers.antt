@@ -1,24 +1,13 @@
 use Rattle.std.proofs.Common.{◌<◌, ◌*◌, arith}
 use Rattle.std.specs.Int.{trailing_zeros, w64}
-use Rattle.std.proofs.lemmas.Bool.{and_parts}
 use Rattle.std.proofs.lemmas.Nat.Bits.{bit_at-trailing_zeros}
-use Rattle.pcef_index.specs.private.Lines.{line_fits, standing_fits, stands}
+use Rattle.pcef_index.specs.private.Lines.{standing_fits}
 use Rattle.pcef_index.specs.private.Words.{fits_at}
-use Rattle.pcef_index.proofs.Searching.{fail_below, sieved_above, sieved_stronger, without_smaller}
+use Rattle.pcef_index.proofs.Searching.{fail_below, sieved_above, without_smaller}
 use Rattle.pcef_index.proofs.sieve.Sieve.first_in.Goals as goal
 
 pub loop-left-init : goal.loop-left-init
-loop-left-init g c =
-    let offers = g.C.Offers.offers c.args.catalog.now in
-    let ue = c.args.ue.now in
-    let h = c.args.header.now in
-    let places = c.args.standing.places.now in
-    record {
-      fits = omega arith;
-      sieved = sieved_stronger (standing_fits places offers ue h) (line_fits offers ue h) c.args.standing.lines.now c.args.self.now.numbers.items (c.args.passed.block * 64) c.args.passed.word
-          (λ l fits. (and_parts (line_fits offers ue h l) (stands places l.place) fits).0)
-          c.requires.sieved;
-    }
+loop-left-init g c = record { fits = omega arith; sieved = c.requires.sieved }
 
 pub last_failing-requires-clause-bit : goal.last_failing-requires-clause-bit
 last_failing-requires-clause-bit g c =

@@ -1,8 +1,9 @@
-use Rattle.std.proofs.Common.{◌≡◌, ◌<◌, ◌+◌, ◌*◌, ◌/◌, ◌∙◌, ℕ, ap, drop, find, length, refl, arith}
+use Rattle.std.proofs.Common.{◌≡◌, ◌<◌, ◌+◌, ◌*◌, ◌/◌, ◌∙◌, ℕ, ap, drop, find, length, refl, subst, sym, arith}
 use Rattle.pcef_index.specs.private.Lines.{standing_fits}
+use Rattle.pcef_index.specs.private.Standing.{HasStanding}
 use Rattle.pcef_index.specs.private.Words.{fits_at}
 use Rattle.pcef_index.proofs.Probing.{has_words, lets_at}
-use Rattle.pcef_index.proofs.Running.{behind_fail}
+use Rattle.pcef_index.proofs.Running.{behind_fail, both_have}
 use Rattle.pcef_index.proofs.Searching.{found_in, next_block, rest_fails}
 use Rattle.pcef_index.proofs.sieve.Sieve.first_place.Goals as goal
 
@@ -13,7 +14,7 @@ returns-then-are_behind g c =
     let places = c.args.standing.places.now in
     rest_fails (standing_fits places (g.C.Offers.offers c.args.catalog.now) c.args.ue.now c.args.header.now) lines self.numbers.items 0
     (λ j from. behind_fail places (g.C.Offers.offers c.args.catalog.now) c.args.ue.now c.args.header.now lines self.numbers.items j
-    (λ k there. c.are_behind.ensures lines self.numbers.items j k c.requires.runs c.if-are_behind.true from there)) refl
+    (λ k there. c.are_behind.ensures lines self.numbers.items j k c.requires.sieve.runs c.if-are_behind.true from there)) refl
 
 pub returns-then-are_behind-2 : goal.returns-then-are_behind-2
 returns-then-are_behind-2 g c =
@@ -25,22 +26,30 @@ returns-then-are_behind-2 g c =
     let next : block * 64 + 64 ≡ (block + 1) * 64 = omega arith in
     rest_fails (standing_fits places (g.C.Offers.offers c.args.catalog.now) c.args.ue.now c.args.header.now) lines self.numbers.items (block * 64 + 64)
     (λ j from. behind_fail places (g.C.Offers.offers c.args.catalog.now) c.args.ue.now c.args.header.now lines self.numbers.items j
-    (λ k there. c.are_behind-in-loop-block.ensures lines self.numbers.items j k c.requires.runs c.if-are_behind-2.true from there))
+    (λ k there. c.are_behind-in-loop-block.ensures lines self.numbers.items j k c.requires.sieve.runs c.if-are_behind-2.true from there))
     (ap (λ (n : ℕ). find test (drop n self.numbers.items)) next ∙ next_block test self.numbers.items block c.in_default.ensures c.loop-block.invariant)
 
-pub sieved-word-requires-clause-words : goal.sieved-word-requires-clause-words
-sieved-word-requires-clause-words g c =
+pub sieved-requires-clause-words : goal.sieved-requires-clause-words
+sieved-requires-clause-words g c =
     let self = c.args.self.now in
     let blocks : ℕ = (length self.numbers.items + 63) / 64 in
-    let some = c.requires.shaped.free in
+    let some = c.requires.sieve.shaped.free in
     let less : c.loop-block.block < blocks = omega (arith, some, c.loop-block-test.true) in
-    has_words self c.args.ue.now c.args.header.now c.probe-probe.result blocks c.loop-block.block c.requires.shaped less c.probe-probe.ensures.is c.probe-probe.ensures.within
+    has_words self c.args.ue.now c.args.header.now c.probe-probe.result blocks c.loop-block.block c.requires.sieve.shaped less c.probe-probe.ensures.is c.probe-probe.ensures.within
 
 pub first_in-requires-clause-sieved : goal.first_in-requires-clause-sieved
 first_in-requires-clause-sieved g c i small passes =
+    let self = c.args.self.now in
+    let lines = c.args.standing.lines.now in
+    let offers = g.C.Offers.offers c.args.catalog.now in
+    let ue = c.args.ue.now in
+    let h = c.args.header.now in
+    let block = c.loop-block.block in
     let is = c.probe-probe.ensures.is in
-    c.sieved-word.ensures c.args.ue.now c.args.header.now i is small
-    (lets_at c.args.self.now c.args.standing.lines.now (g.C.Offers.offers c.args.catalog.now) c.args.ue.now c.args.header.now c.loop-block.block i c.requires.lets is.ranged small passes)
+    let has : HasStanding c.args.standing.places.now lines self.numbers.items block c.standing_at.result =
+    subst (HasStanding c.args.standing.places.now lines self.numbers.items block) (sym c.standing_at.ensures) (c.requires.words block) in
+    both_have c.args.standing.places.now offers ue h lines self.numbers.items block c.standing_at.result c.sieved.result i has small
+    (λ fits. c.sieved.ensures ue h i is small (lets_at self lines offers ue h block i c.requires.sieve.lets is.ranged small fits)) passes
 
 pub returns-in-Some : goal.returns-in-Some
 returns-in-Some g c =
