@@ -112,11 +112,11 @@ def spread_alone():
     return m.made(ones + body + news, acts("+", ones, body, news))
 
 
-def own_two(has_gone=False):
+def own_two(went=0):
     """As spread_alone, uplink, and dearer at each step: eight protocols in a row are counted one by one, the older
     base's networks lie below the packet's address and the newer one's above, and that address is the session's own.
-    Where a rule went, as one may beside newer ones, its lines fit, they lie in two blocks, and the first older line
-    that stands is behind them."""
+    Where rules went, eight at most, their lines fit, they lie in two blocks or more, and the first older line that stands
+    is behind them."""
     low, high = (int(ipaddress.ip_address(text)) for text in ("1001:db8::", "c001:db8::"))
     failed = {low: 0, high: 0}
 
@@ -130,10 +130,10 @@ def own_two(has_gone=False):
         return name, [fit if k in fits else fail(first) for k in range(count)]
 
     def make():
-        gone = [rule("g", low, 16, range(16))] if has_gone else []
-        before = [rule("p", low), rule("q", low), rule("r", low), rule("t", low, 8)] if has_gone else []
+        gone = [rule(f"g{r}", low, 16, range(16)) for r in range(went)]
+        before = [rule("p", low), rule("q", low), rule("r", low), rule("t", low, 8)] if went else []
         ones = [rule(f"s{r}", low, 1, (0,) if r == 0 else ()) for r in range(4)]
-        olds = [rule(f"o{r:02}", low) for r in range(51 if has_gone else 56)]
+        olds = [rule(f"o{r:02}", low) for r in range(52 - went if went else 56)]
         news = [rule(f"n{r}", high, 16, (0,) if r == 0 else ()) for r in range(4)]
         packets = [Packet(direction=UP, proto=255, remote=text_of(NET + 0x7777777777770000 + n), local=text_of(OWN))
                    for n in range(64)]
@@ -146,4 +146,5 @@ def own_two(has_gone=False):
 SETS = {"behind": behind(), "behind_one_proto": behind(1, False), "behind_installed": behind_installed,
         "straddle": straddle(), "straddle_ports": straddle(132, True, True),
         "straddle_ports_one_proto": straddle(132, False, True), "straddle_one_proto": straddle(1, False),
-        "spread_alone": spread_alone, "own_two": own_two(), "own_two_gone": own_two(True)}
+        "spread_alone": spread_alone, "own_two": own_two(), "own_two_gone": own_two(1),
+        "own_two_eight_gone": own_two(8)}

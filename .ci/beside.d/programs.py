@@ -178,6 +178,6 @@ def time_each(words_of, few, many, each):
 def most_held(words):
     """The most octets that a run holds of the heap, by massif."""
     path = f"{FOLDER}/massif.out"
-    run(["valgrind", "--tool=massif", f"--massif-out-file={path}", *map(str, words)])
+    run(["valgrind", "--tool=massif", "--peak-inaccuracy=0", f"--massif-out-file={path}", *map(str, words)])
     with open(path, encoding="utf-8") as file:
         return max(int(octets) for octets in re.findall(r"^mem_heap_B=(\d+)", file.read(), re.M))

@@ -8,7 +8,8 @@
 //! 0 the verdict on each packet is written, one a line. ADDRESS is the session's, of either version, 10.0.0.2 by
 //! default. With `scan` no index is asked.
 //!
-//! `classify RULES build TIMES` builds the index TIMES times, and writes the number of rules.
+//! `classify RULES build TIMES` builds the index TIMES times, each while the one before is there, and writes the number of
+//! rules.
 
 mod packets;
 mod rules;
@@ -52,8 +53,9 @@ fn build(rt: &HostRuntime, catalog: &Catalog, rules: &str, work: Work) -> io::Re
     let Ok(table) = rules::table(rt.alloc(), catalog, text.as_str()) else {
         return Ok(false);
     };
+    let mut _before = None;
     for _ in 0..work.passes {
-        let _index = Index::build(rt.alloc(), &table, catalog, work.ue)?;
+        _before = Some(Index::build(rt.alloc(), &table, catalog, work.ue)?);
     }
     writeln!(writer, "rules {}", table.len())?;
     Ok(true)

@@ -4,7 +4,6 @@ use Rattle.std.proofs.Math.ListN.{get_or-append}
 use Rattle.std.proofs.lemmas.Bool.{and_parts, cases_eq, cases_lt}
 use Rattle.std.specs.Global.{Box, Global}
 use Rattle.std.specs.Int.{bit_at}
-use Rattle.std.specs.Int.Bits.{bit_and}
 use Rattle.std.specs.Prelude.{is_some, slice_get}
 use Rattle.std.specs.declared.vec.Vec.{Vec}
 use Rattle.std.proofs.lemmas.List.{get_or_past, get_or_push}
@@ -14,14 +13,12 @@ use Rattle.pcef_packet.specs.declared.header.Header.{Header}
 use Rattle.pcef_catalog.specs.declared.listing.Offer.{Offer}
 use Rattle.pcef_index.specs.declared.by_kind.ByKind.{ByKind}
 use Rattle.pcef_index.specs.declared.lines.Line.{Line}
-use Rattle.pcef_index.specs.declared.sieve.Sieve.{Sieve}
 use Rattle.pcef_index.specs.private.AllSieves.{BaseValue}
-use Rattle.pcef_index.specs.private.ByKinds.{in_class, in_dir, in_version}
 use Rattle.pcef_index.specs.private.Lines.{line_fits, standing_fits, stands}
 use Rattle.pcef_index.specs.private.Runs.{rule_at}
-use Rattle.pcef_index.specs.private.Standing.{AreAll, AreStanding, AreStandingIn, HasStanding, StandIn}
+use Rattle.pcef_index.specs.private.Standing.{AreStanding, AreStandingIn, HasStanding}
 use Rattle.pcef_index.specs.private.Words.{fits_at, passes_at, place_at}
-use Rattle.pcef_index.proofs.Bits.{and_has, full_has}
+use Rattle.pcef_index.proofs.Bits.{full_has}
 use Rattle.pcef_index.proofs.Searching.{weaker_at}
 
 right_false : (a b : Bool) → b ≡ false → (a && b) ≡ false
@@ -71,35 +68,11 @@ word_more places lines numbers words word are has block i k small there up =
       ]
     ]
 
--- the words of no sieve's lines are right for all
-pub all_stand_in : (places : List (Option ℕ)) (lines : List Line) (sieve : Option (Box Sieve)) (words : Vec ℕ Global) → words.items ≡ [] → StandIn places lines sieve words
-all_stand_in places lines sieve words none s is = subst (λ (ws : List ℕ). AreStanding places lines s.value.numbers.items ws) (sym none) (all_stand places lines s.value.numbers.items)
+-- where there are no words at all, they are right for all rules
+pub all_stand_in : (base : BaseValue) (places : List (Option ℕ)) → AreStandingIn base places None
+all_stand_in base places kind s is = all_stand places base.lines s.value.numbers.items
 
-pub all_stand_everywhere : (base : BaseValue) (places : List (Option ℕ)) (words : ByKind (Vec ℕ Global)) → AreAll words → AreStandingIn base places words
-all_stand_everywhere base places words none dir version class =
-    all_stand_in places base.lines (in_class (in_version (in_dir base.sieves dir) version) class) (in_class (in_version (in_dir words dir) version) class)
-    (none (record { dir = dir; version = version; class = class }))
-
--- a rule that stands among the first of some places stands among all
-stands_more : (few all : List (Option ℕ)) (reach : ℕ) → ((b : ℕ) → b < reach → get_or few b None ≡ get_or all b None) → ((b : ℕ) → reach ≤ b → get_or few b None ≡ None)
-    → (k : ℕ) → stands few k ≡ true → stands all k ≡ true
-stands_more few all reach same past k up =
-    elim (cases_lt k reach) [
-      | inl below ↦ ap is_some (sym (same k below)) ∙ up
-      | inr behind ↦ absurd (let none = ap is_some (past k (omega (arith, behind))) in cc)
-    ]
-
-stand_in_fewer : (few all : List (Option ℕ)) (lines : List Line) (sieve : Option (Box Sieve)) (words : Vec ℕ Global) → ((k : ℕ) → stands few k ≡ true → stands all k ≡ true) → StandIn all lines sieve words → StandIn few lines sieve words
-stand_in_fewer few all lines sieve words more stand s is block i k small there up = stand s is block i k small there (more k up)
-
--- so words for all places are words for the first of them
-pub stand_within : (base : BaseValue) (few all : List (Option ℕ)) (words : ByKind (Vec ℕ Global)) (reach : ℕ) → ((b : ℕ) → b < reach → get_or few b None ≡ get_or all b None)
-    → ((b : ℕ) → reach ≤ b → get_or few b None ≡ None) → AreStandingIn base all words → AreStandingIn base few words
-stand_within base few all words reach same past is dir version class =
-    stand_in_fewer few all base.lines (in_class (in_version (in_dir base.sieves dir) version) class) (in_class (in_version (in_dir words dir) version) class)
-    (stands_more few all reach same past) (is dir version class)
-
--- a line that fits, and whose rule stands, has its bit where both words have it
+-- a line that fits, and whose rule stands, has its bit in a word of those that stand
 place_stands : (places : List (Option ℕ)) (offers : List Offer) (ue : Addr) (h : Header) (o : Option Line) → option_map_or (standing_fits places offers ue h) o false ≡ true
     → (k : ℕ) × (option_map (λ (l : Line). l.place) o ≡ Some k) × (stands places k ≡ true)
 place_stands places offers ue h None passes = absurd (cc)
@@ -110,11 +83,14 @@ rule_stands : (places : List (Option ℕ)) (offers : List Offer) (ue : Addr) (h 
 rule_stands places offers ue h lines None passes = absurd (cc)
 rule_stands places offers ue h lines (Some n) passes = place_stands places offers ue h (slice_get lines n) passes
 
-pub both_have : (places : List (Option ℕ)) (offers : List Offer) (ue : Addr) (h : Header) (lines : List Line) (numbers : List ℕ) (block word sieved i : ℕ) → HasStanding places lines numbers block word → i < 64
-    → (passes_at (fits_at (line_fits offers ue h) lines) numbers (block * 64 + i) ≡ true → bit_at sieved i ≡ 1) → passes_at (fits_at (standing_fits places offers ue h) lines) numbers (block * 64 + i) ≡ true
-    → bit_at (bit_and word sieved) i ≡ 1
-both_have places offers ue h lines numbers block word sieved i has small lets passes =
-    let up = rule_stands places offers ue h lines (slice_get numbers (block * 64 + i)) passes in
+pub standing_has : (places : List (Option ℕ)) (offers : List Offer) (ue : Addr) (h : Header) (lines : List Line) (numbers : List ℕ) (block word i : ℕ) → HasStanding places lines numbers block word → i < 64
+    → passes_at (fits_at (standing_fits places offers ue h) lines) numbers (block * 64 + i) ≡ true → bit_at word i ≡ 1
+standing_has places offers ue h lines numbers block word i has small passes =
+    let up = rule_stands places offers ue h lines (slice_get numbers (block * 64 + i)) passes in has i up.0 small up.1 up.2
+
+-- and it fits wherever its rule stands
+pub fits_too : (places : List (Option ℕ)) (offers : List Offer) (ue : Addr) (h : Header) (lines : List Line) (numbers : List ℕ) (j : ℕ)
+    → passes_at (fits_at (standing_fits places offers ue h) lines) numbers j ≡ true → passes_at (fits_at (line_fits offers ue h) lines) numbers j ≡ true
+fits_too places offers ue h lines numbers j passes =
     let weaker : (l : Line) → standing_fits places offers ue h l ≡ true → line_fits offers ue h l ≡ true = λ l fits. (and_parts (line_fits offers ue h l) (stands places l.place) fits).0 in
-    and_has word sieved i (has i up.0 small up.1 up.2)
-    (lets (weaker_at (fits_at (standing_fits places offers ue h) lines) (fits_at (line_fits offers ue h) lines) (λ n fits. weaker_at (standing_fits places offers ue h) (line_fits offers ue h) weaker (slice_get lines n) fits) (slice_get numbers (block * 64 + i)) passes))
+    weaker_at (fits_at (standing_fits places offers ue h) lines) (fits_at (line_fits offers ue h) lines) (λ n fits. weaker_at (standing_fits places offers ue h) (line_fits offers ue h) weaker (slice_get lines n) fits) (slice_get numbers j) passes

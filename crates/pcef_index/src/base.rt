@@ -7,13 +7,13 @@ ghost use Rattle.pcef_index.specs.declared.lines.Line.{Line};
 ghost use Rattle.pcef_index.specs.private.AllSieves.{AreServed};
 ghost use Rattle.pcef_index.specs.private.Bases.{IsFirstOf, stands_and_fits};
 ghost use Rattle.pcef_index.specs.private.Lines.{IsFor, standing_fits};
-ghost use Rattle.pcef_index.specs.private.Standing.{AreStandingIn, StandInKinds};
+ghost use Rattle.pcef_index.specs.private.Standing.{AreStandingIn, StandFor};
 
 use crate::kinds::kind_of;
 use crate::lines::{Line, Standing, lines_of, stands};
 use crate::sides::{Side, end_on};
 use crate::sieves::{Sieves, sieves_of};
-use crate::standing_words::{StandingWords, all_standing, words_by_kind};
+use crate::standing_words::{StandingWords, words_by_kind, words_for};
 use pcef_catalog::Detects;
 use pcef_filter::{Place, any_matches};
 use pcef_packet::{Addr, Header};
@@ -74,7 +74,7 @@ fn first_place<C: Detects>(
     header: &Header,
 ) -> Option<u8>
     requires served { AreServed standing.lines.now sieves.now }
-    requires words { StandInKinds standing.places.now standing.lines.now sieves.now words.now }
+    requires words { StandFor standing.places.now standing.lines.now sieves.now words.now }
     ensures { result ≡ option_map (λ (l : Line). l.place)
         (find (standing_fits standing.entry.places.now (C.offers catalog.now) ue.now header.now)
         standing.entry.lines.now) }
@@ -82,7 +82,7 @@ fn first_place<C: Detects>(
     let kind = kind_of(header);
     match sieves.of(kind) {
         None => None,
-        Some(sieve) => sieve.first_place(standing, words.of(kind), catalog, ue, header),
+        Some(sieve) => sieve.first_place(standing, words_for(words, kind), catalog, ue, header),
     }
 }
 
@@ -167,7 +167,7 @@ impl Base {
         ensures { IfOk result (AreStandingIn self.now places.now) }
     {
         if places.iter().all(|place| place.is_some()) {
-            return Ok(all_standing(alloc));
+            return Ok(None);
         }
         words_by_kind(alloc, &self.lines, &self.sieves, places)
     }

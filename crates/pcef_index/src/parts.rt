@@ -7,7 +7,6 @@ ghost use Rattle.pcef_index.specs.private.Bases.{AreCopies, Ascend, Has, HasPlac
 use crate::base::Base;
 use crate::equal::is_equal;
 use crate::part::Part;
-use crate::standing_words::all_standing;
 use pcef_catalog::Detects;
 use pcef_packet::{Addr, Header};
 use pcef_table::Source;
@@ -65,11 +64,10 @@ impl Part {
         let copies = copies_at(alloc, sources, &places)?;
         let base = Arc::new(alloc, Base::new(alloc, copies, ue)?)?;
         let places = somes(alloc, &places)?;
-        let words = all_standing(alloc);
         Ok(Part {
             base,
             places,
-            words,
+            words: None,
         })
     }
 

@@ -121,16 +121,16 @@ impl Sieve {
             & number_word(free.proto, &self.proto, block, probe.proto)
     }
 
-    /// Which of the 64 lines of a block let a packet pass, a bit for each.
+    /// Which of some of the 64 lines of a block let a packet pass, a bit for each.
     #[inline(always)]
-    fn sieved(&self, block: usize, probe: &Probe) -> u64
+    fn sieved(&self, block: usize, some: u64, probe: &Probe) -> u64
         requires block { block < length self.now.free.items }
         requires words { HasWords self.now block probe.now }
-        ensures { (ue : Addr) (h : Header) (i : ℕ) → IsProbe self.now ue h probe.now → i < 64 → Lets self.now block ue h i
-            → bit_at result i ≡ 1 }
+        ensures { (ue : Addr) (h : Header) (i : ℕ) → IsProbe self.now ue h probe.now → i < 64 → bit_at some i ≡ 1
+            → Lets self.now block ue h i → bit_at result i ≡ 1 }
     {
         let free = &self.free[block];
-        let word = free.local | self.local.word(block, probe.local);
+        let word = some & (free.local | self.local.word(block, probe.local));
         if word == 0 {
             return 0;
         }
@@ -237,7 +237,7 @@ impl Sieve {
         }
         let probe = self.probe(numbers_of(header), ue, header);
         for block in 0..self.free.len() {
-            let word = standing_at(words, block) & self.sieved(block, &probe);
+            let word = self.sieved(block, standing_at(words, block), &probe);
             let passed = Passed { block, word };
             if let Some(place) = self.first_in(standing, passed, catalog, ue, header) {
                 return Some(place);

@@ -1,14 +1,12 @@
 //! Which lines have rules that stand, as words of bits: rules that are gone cost a packet nothing.
 
-ghost use Rattle.std.specs.Prelude.{◌≡◌, ◌+◌, ◌*◌, ◌<◌, ◌^◌, ℕ, IfOk, Some, [], true};
-ghost use Rattle.pcef_index.specs.declared.kinds.Class.{Class};
-ghost use Rattle.pcef_index.specs.declared.kinds.Version.{Version};
-ghost use Rattle.pcef_index.specs.private.ByKinds.{in_class, in_version};
+ghost use Rattle.std.specs.Prelude.{◌≡◌, ◌+◌, ◌*◌, ◌<◌, ◌^◌, ℕ, IfOk, Some, true};
 ghost use Rattle.pcef_index.specs.private.Lines.{stands};
 ghost use Rattle.pcef_index.specs.private.Runs.{rule_at};
-ghost use Rattle.pcef_index.specs.private.Standing.{AreAll, AreStanding, HasStanding, StandIn, StandInClasses, StandInKinds, StandInVersions, standing_at};
+ghost use Rattle.pcef_index.specs.private.Standing.{AreStanding, HasStanding, StandFor, StandIn, StandInClasses, StandInVersions, standing_at, words_for};
 
 use crate::by_kind::{ByClass, ByKind, ByVersion};
+use crate::kinds::Kind;
 use crate::lines::{Line, stands};
 use crate::runs::rule_at;
 use crate::sieve::Sieve;
@@ -16,9 +14,20 @@ use crate::sieves::Sieves;
 use crate::words::set;
 use std::alloc::{AllocError, Global};
 
-/// For each kind of packets a word for each 64 lines of its sieve, with the bits of those whose rules stand. A word that
-/// isn't there has all bits.
-pub(crate) type StandingWords = ByKind<Vec<u64>>;
+/// For each kind of packets a word for each 64 lines of its sieve, with the bits of those whose rules stand; or nothing
+/// where all do. A word that isn't there has all bits.
+pub(crate) type StandingWords = Option<Box<ByKind<Vec<u64>>>>;
+
+/// The words of a kind.
+#[inline(always)]
+pub(crate) fn words_for(words: &StandingWords, kind: Kind) -> &[u64]
+    ensures { result.now ≡ words_for words.now kind }
+{
+    match words {
+        None => &[],
+        Some(words) => words.of(kind),
+    }
+}
 
 /// The lines of a block whose rules stand, a bit for each.
 #[inline(always)]
@@ -79,7 +88,7 @@ fn words_of(
     sieve: &Option<Box<Sieve>>,
     places: &[Option<u8>],
 ) -> Result<Vec<u64>, AllocError>
-    ensures { IfOk result (StandIn places.now lines.now sieve.now) }
+    ensures { IfOk result (λ v. StandIn places.now lines.now sieve.now v.items) }
 {
     match sieve {
         None => Ok(Vec::new(alloc)),
@@ -123,40 +132,9 @@ pub(crate) fn words_by_kind(
     sieves: &Sieves,
     places: &[Option<u8>],
 ) -> Result<StandingWords, AllocError>
-    ensures { IfOk result (StandInKinds places.now lines.now sieves.now) }
+    ensures { IfOk result (StandFor places.now lines.now sieves.now) }
 {
     let uplink = words_by_version(alloc, lines, &sieves.uplink, places)?;
     let downlink = words_by_version(alloc, lines, &sieves.downlink, places)?;
-    Ok(ByKind { uplink, downlink })
-}
-
-/// No words, for the classes of a direction and a version.
-fn none_by_class(alloc: Global) -> ByClass<Vec<u64>>
-    ensures { (class : Class) → (in_class result class).items ≡ [] }
-{
-    ByClass {
-        tcp: Vec::new(alloc),
-        udp: Vec::new(alloc),
-        other: Vec::new(alloc),
-    }
-}
-
-/// The same for the versions of a direction.
-fn none_by_version(alloc: Global) -> ByVersion<Vec<u64>>
-    ensures { (version : Version) (class : Class) → (in_class (in_version result version) class).items ≡ [] }
-{
-    ByVersion {
-        narrow: none_by_class(alloc),
-        wide: none_by_class(alloc),
-    }
-}
-
-/// No words: all rules stand, or may. Takes no memory.
-pub(crate) fn all_standing(alloc: Global) -> StandingWords
-    ensures { AreAll result }
-{
-    ByKind {
-        uplink: none_by_version(alloc),
-        downlink: none_by_version(alloc),
-    }
+    Ok(Some(Box::new(alloc, ByKind { uplink, downlink })?))
 }

@@ -1,9 +1,8 @@
 -- Words with the bits of lines whose rules stand.
-use Rattle.std.specs.Prelude.{ℕ, ◌+◌, ◌*◌, ◌≡◌, ◌<◌, true, List, [], Option, Some, get_or}
+use Rattle.std.specs.Prelude.{ℕ, ◌+◌, ◌*◌, ◌≡◌, ◌<◌, true, List, [], Option, Some, None, get_or}
 use Rattle.std.specs.Global.{Box, Global}
 use Rattle.std.specs.Int.{bit_at}
 use Rattle.std.specs.declared.vec.Vec.{Vec}
-use Rattle.pcef_packet.specs.declared.header.Dir.{Dir}
 use Rattle.pcef_index.specs.declared.by_kind.ByClass.{ByClass}
 use Rattle.pcef_index.specs.declared.by_kind.ByKind.{ByKind}
 use Rattle.pcef_index.specs.declared.by_kind.ByVersion.{ByVersion}
@@ -13,7 +12,7 @@ use Rattle.pcef_index.specs.declared.kinds.Version.{Version}
 use Rattle.pcef_index.specs.declared.lines.Line.{Line}
 use Rattle.pcef_index.specs.declared.sieve.Sieve.{Sieve}
 use Rattle.pcef_index.specs.private.AllSieves.{BaseValue}
-use Rattle.pcef_index.specs.private.ByKinds.{in_class, in_dir, in_version, of_kind}
+use Rattle.pcef_index.specs.private.ByKinds.{in_class, in_version, of_kind}
 use Rattle.pcef_index.specs.private.Lines.{stands}
 use Rattle.pcef_index.specs.private.Runs.{rule_at}
 
@@ -30,23 +29,26 @@ abbrev pub AreStanding : List (Option ℕ) → List Line → List ℕ → List �
 AreStanding places lines numbers words = (block : ℕ) → HasStanding places lines numbers block (standing_at words block)
 
 -- the words are so for the lines of a sieve, if there is one
-abbrev pub StandIn : List (Option ℕ) → List Line → Option (Box Sieve) → Vec ℕ Global → Type 0
-StandIn places lines sieve words = (s : Box Sieve) → sieve ≡ Some s → AreStanding places lines s.value.numbers.items words.items
+abbrev pub StandIn : List (Option ℕ) → List Line → Option (Box Sieve) → List ℕ → Type 0
+StandIn places lines sieve words = (s : Box Sieve) → sieve ≡ Some s → AreStanding places lines s.value.numbers.items words
 
 abbrev pub StandInClasses : List (Option ℕ) → List Line → ByClass (Option (Box Sieve)) → ByClass (Vec ℕ Global) → Type 0
-StandInClasses places lines sieves words = (class : Class) → StandIn places lines (in_class sieves class) (in_class words class)
+StandInClasses places lines sieves words =
+    (class : Class) → StandIn places lines (in_class sieves class) (in_class words class).items
 
 abbrev pub StandInVersions : List (Option ℕ) → List Line → ByVersion (Option (Box Sieve)) → ByVersion (Vec ℕ Global) → Type 0
 StandInVersions places lines sieves words =
     (version : Version) → StandInClasses places lines (in_version sieves version) (in_version words version)
 
-abbrev pub StandInKinds : List (Option ℕ) → List Line → ByKind (Option (Box Sieve)) → ByKind (Vec ℕ Global) → Type 0
-StandInKinds places lines sieves words = (dir : Dir) → StandInVersions places lines (in_dir sieves dir) (in_dir words dir)
+-- the words of a kind, if there are any
+abbrev pub words_for : Option (Box (ByKind (Vec ℕ Global))) → Kind → List ℕ
+words_for None kind = []
+words_for (Some words) kind = (of_kind words.value kind).items
 
--- the words have the bits of all lines of a base whose rules stand
-abbrev pub AreStandingIn : BaseValue → List (Option ℕ) → ByKind (Vec ℕ Global) → Type 0
-AreStandingIn base places words = StandInKinds places base.lines base.sieves words
+-- the words have the bits of all lines whose rules stand, for each kind
+abbrev pub StandFor : List (Option ℕ) → List Line → ByKind (Option (Box Sieve)) → Option (Box (ByKind (Vec ℕ Global))) → Type 0
+StandFor places lines sieves words = (kind : Kind) → StandIn places lines (of_kind sieves kind) (words_for words kind)
 
--- no word is there
-abbrev pub AreAll : ByKind (Vec ℕ Global) → Type 0
-AreAll words = (kind : Kind) → (of_kind words kind).items ≡ []
+-- the same for the lines of a base
+abbrev pub AreStandingIn : BaseValue → List (Option ℕ) → Option (Box (ByKind (Vec ℕ Global))) → Type 0
+AreStandingIn base places words = StandFor places base.lines base.sieves words

@@ -2,7 +2,7 @@ use Rattle.std.proofs.Common.{◌∙◌, List, ap, find, refl, subst, sym}
 use Rattle.pcef_index.specs.declared.lines.Line.{Line}
 use Rattle.pcef_index.specs.private.AllSieves.{BaseValue}
 use Rattle.pcef_index.specs.private.Lines.{lines_from, standing_fits}
-use Rattle.pcef_index.specs.private.Standing.{StandInKinds}
+use Rattle.pcef_index.specs.private.Standing.{StandFor}
 use Rattle.pcef_index.proofs.Numbering.{place_of}
 use Rattle.pcef_index.proofs.Standing.{first_rule}
 use Rattle.pcef_index.proofs.base.Base.first_standing.Goals as goal
@@ -25,5 +25,5 @@ first_place-requires-clause-words g c =
     let inside = c.self.inside in
     let places = c.args.places.now in
     let words = c.args.words.now in
-    let stand : StandInKinds places inside.lines.items inside.sieves words = subst (λ (b : BaseValue). StandInKinds places b.lines b.sieves words) (sym c.self.view_is) c.requires in
-    subst (λ (ls : List Line). StandInKinds places ls inside.sieves words) (sym c.deref-2.ensures.value) stand
+    let stand : StandFor places inside.lines.items inside.sieves words = subst (λ (b : BaseValue). StandFor places b.lines b.sieves words) (sym c.self.view_is) c.requires in
+    subst (λ (ls : List Line). StandFor places ls inside.sieves words) (sym c.deref-2.ensures.value) stand

@@ -1,5 +1,5 @@
-use Rattle.pcef_index.proofs.Running.{all_stand_everywhere}
+use Rattle.pcef_index.proofs.Running.{all_stand_in}
 use Rattle.pcef_index.proofs.base.Base.standing.Goals as goal
 
 pub returns-then-all : goal.returns-then-all
-returns-then-all c = all_stand_everywhere c.args.self.now c.args.places.now c.all_standing.result c.all_standing.ensures
+returns-then-all c = all_stand_in c.args.self.now c.args.places.now

@@ -1,16 +1,14 @@
-use Rattle.std.proofs.Common.{◌∙◌, List, Some, ap, map, subst, ℕ}
+use Rattle.std.proofs.Common.{◌∙◌, List, None, Some, ap, map, subst, ℕ}
 use Rattle.std.specs.Arc.{arc_value}
 use Rattle.pcef_index.specs.private.AllSieves.{BaseValue}
 use Rattle.pcef_index.specs.private.Bases.{AreCopies}
 use Rattle.pcef_index.specs.declared.part.Part.{Part}
-use Rattle.pcef_index.proofs.Running.{all_stand_everywhere}
+use Rattle.pcef_index.proofs.Running.{all_stand_in}
 use Rattle.pcef_index.proofs.Parting.{all_copied, copied}
 use Rattle.pcef_index.proofs.part.Part.new.Goals as goal
 
 pub invariant_of-result : goal.invariant_of-result
-invariant_of-result c = record {
-  standing = all_stand_everywhere (arc_value c.in_ok-base.base) c.in_ok-places.places.items c.all_standing-words.result c.all_standing-words.ensures;
-}
+invariant_of-result c = record { standing = all_stand_in (arc_value c.in_ok-base.base) c.in_ok-places.places.items }
 
 pub returns-clause-part : goal.returns-clause-part
 returns-clause-part c =
@@ -25,7 +23,7 @@ returns-clause-all c =
     let p : Part = record {
       base = c.in_ok-base.base;
       places = c.in_ok-places.places;
-      words = c.all_standing-words.result;
-      standing = all_stand_everywhere (arc_value c.in_ok-base.base) c.in_ok-places.places.items c.all_standing-words.result c.all_standing-words.ensures;
+      words = None;
+      standing = all_stand_in (arc_value c.in_ok-base.base) c.in_ok-places.places.items;
     } in
     all_copied c.args.places.items p (c.in_ok-places.ensures ∙ ap (map (λ (n : ℕ). Some n)) c.deref-2.ensures.value)

@@ -1,9 +1,9 @@
 use Rattle.std.proofs.Common.{◌≡◌, ◌<◌, ◌+◌, ◌*◌, ◌/◌, ◌∙◌, ℕ, ap, drop, find, length, refl, subst, sym, arith}
+use Rattle.std.specs.Int.{bit_at}
 use Rattle.pcef_index.specs.private.Lines.{standing_fits}
-use Rattle.pcef_index.specs.private.Standing.{HasStanding}
 use Rattle.pcef_index.specs.private.Words.{fits_at}
 use Rattle.pcef_index.proofs.Probing.{has_words, lets_at}
-use Rattle.pcef_index.proofs.Running.{behind_fail, both_have}
+use Rattle.pcef_index.proofs.Running.{behind_fail, fits_too, standing_has}
 use Rattle.pcef_index.proofs.Searching.{found_in, next_block, rest_fails}
 use Rattle.pcef_index.proofs.sieve.Sieve.first_place.Goals as goal
 
@@ -29,8 +29,8 @@ returns-then-are_behind-2 g c =
     (λ k there. c.are_behind-in-loop-block.ensures lines self.numbers.items j k c.requires.sieve.runs c.if-are_behind-2.true from there))
     (ap (λ (n : ℕ). find test (drop n self.numbers.items)) next ∙ next_block test self.numbers.items block c.in_default.ensures c.loop-block.invariant)
 
-pub sieved-requires-clause-words : goal.sieved-requires-clause-words
-sieved-requires-clause-words g c =
+pub sieved-word-requires-clause-words : goal.sieved-word-requires-clause-words
+sieved-word-requires-clause-words g c =
     let self = c.args.self.now in
     let blocks : ℕ = (length self.numbers.items + 63) / 64 in
     let some = c.requires.sieve.shaped.free in
@@ -41,15 +41,15 @@ pub first_in-requires-clause-sieved : goal.first_in-requires-clause-sieved
 first_in-requires-clause-sieved g c i small passes =
     let self = c.args.self.now in
     let lines = c.args.standing.lines.now in
+    let places = c.args.standing.places.now in
     let offers = g.C.Offers.offers c.args.catalog.now in
     let ue = c.args.ue.now in
     let h = c.args.header.now in
     let block = c.loop-block.block in
     let is = c.probe-probe.ensures.is in
-    let has : HasStanding c.args.standing.places.now lines self.numbers.items block c.standing_at.result =
-    subst (HasStanding c.args.standing.places.now lines self.numbers.items block) (sym c.standing_at.ensures) (c.requires.words block) in
-    both_have c.args.standing.places.now offers ue h lines self.numbers.items block c.standing_at.result c.sieved.result i has small
-    (λ fits. c.sieved.ensures ue h i is small (lets_at self lines offers ue h block i c.requires.sieve.lets is.ranged small fits)) passes
+    let up : bit_at c.standing_at.result i ≡ 1 =
+    subst (λ (w : ℕ). bit_at w i ≡ 1) (sym c.standing_at.ensures) (standing_has places offers ue h lines self.numbers.items block _ i (c.requires.words block) small passes) in
+    c.sieved-word.ensures ue h i is small up (lets_at self lines offers ue h block i c.requires.sieve.lets is.ranged small (fits_too places offers ue h lines self.numbers.items (block * 64 + i) passes))
 
 pub returns-in-Some : goal.returns-in-Some
 returns-in-Some g c =
