@@ -23,6 +23,11 @@ fn count_octets<N: Naming>(
         ≡ record books.old { totals = with_slots books.old.totals slots.now octets } }
     ensures shares { shares.new ≡ with_slots shares.old slots.now octets }
 {
+    // Most rows count for one slot.
+    if slots.len() == 1 {
+        books.add(shares, slots[0], octets);
+        return;
+    }
     for slot in slots {
         books.add(shares, *slot, octets);
     }
