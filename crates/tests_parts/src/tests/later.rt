@@ -35,12 +35,12 @@ fn with_dns<C: Offers>(alloc: Global, catalog: &C, before: &Indexed) -> Option<I
     before.after(alloc, more).ok()
 }
 
-/// The next table, without that rule.
-fn without_dns<C: Offers>(alloc: Global, catalog: &C, before: &Indexed) -> Option<Indexed>
+/// The next table, without a rule.
+fn without<C: Offers>(alloc: Global, catalog: &C, before: &Indexed, name: &str) -> Option<Indexed>
     requires { IsTable (C.offers catalog.now) before.now.entries }
     ensures { IfSome result (λ i. IsTable (C.offers catalog.now) i.entries) }
 {
-    let less = without_rule(catalog, before.table(), "b")?;
+    let less = without_rule(catalog, before.table(), name)?;
     before.after(alloc, less).ok()
 }
 
@@ -49,7 +49,7 @@ fn verdicts(alloc: Global) -> Option<[Verdict; 3]> {
     let catalog = empty_catalog(alloc)?;
     let first = many(alloc, &catalog)?;
     let second = with_dns(alloc, &catalog, &first)?;
-    let third = without_dns(alloc, &catalog, &second)?;
+    let third = without(alloc, &catalog, &second, "b")?;
     Some([
         first.classify(&catalog, UE, &DNS_ANSWER),
         second.classify(&catalog, UE, &DNS_ANSWER),
@@ -65,4 +65,26 @@ fn expected() -> Option<[Verdict; 3]> {
 #[test]
 fn a_rule_that_comes_and_goes_decides_meanwhile(rt: HostRuntime) {
     expect_equal(&rt, &verdicts(rt.alloc()), &expected());
+}
+
+/// What tables decide of a packet once the rule that did is gone, and once another one came.
+fn verdicts_of_others(alloc: Global) -> Option<[Verdict; 2]> {
+    let catalog = empty_catalog(alloc)?;
+    let first = many(alloc, &catalog)?;
+    let second = without(alloc, &catalog, &first, "a")?;
+    let third = with_dns(alloc, &catalog, &second)?;
+    Some([
+        second.classify(&catalog, UE, &DNS_ANSWER),
+        third.classify(&catalog, UE, &DNS_ANSWER),
+    ])
+}
+
+/// What is expected of them.
+fn expected_of_others() -> Option<[Verdict; 2]> {
+    Some([Verdict::Unmatched, passed("b", 6)?])
+}
+
+#[test]
+fn a_rule_that_went_decides_no_longer(rt: HostRuntime) {
+    expect_equal(&rt, &verdicts_of_others(rt.alloc()), &expected_of_others());
 }
