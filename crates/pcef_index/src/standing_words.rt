@@ -1,4 +1,4 @@
-//! Which lines have rules that stand, as words of bits: rules that are gone cost a packet nothing.
+//! Which lines have rules that stand, as words of bits, so that those of rules that are gone are not compared.
 
 ghost use Rattle.std.specs.Prelude.{◌≡◌, ◌+◌, ◌*◌, ◌<◌, ◌^◌, ℕ, IfOk, Some, true};
 ghost use Rattle.pcef_index.specs.private.Lines.{stands};
